@@ -1,0 +1,10 @@
+pub mod ReaderLaws
+pub mod ValueLaws
+pub mod WriterLaws
+pub mod BareLaws
+pub mod Inversion
+pub mod StripLaws
+pub mod RoundTrip
+pub mod Laws
+pub mod Table
+pub mod OneResult
