@@ -1,0 +1,9 @@
+pub mod Book
+pub mod View
+pub mod Lines
+pub mod Turns
+pub mod Waiting
+pub mod Events
+pub mod Picture
+pub mod Sound
+pub mod Step
