@@ -144,6 +144,15 @@ pub note-view : (m : Message) → 2 ≤ m .confirmation → viewed m ≡ noteIn 
 unfolding viewed
 note-view m l = note-at (m .confirmation) m l
 
+module _ (s : List ℕ) (h : Header) {n : ℕ} (w : Reads s h n) where
+  pub plain-octets : h .confirmation ≡ 0 → msgOctets (plainIn (messageAt s h)) ≡ bareTo s (h .end)
+  unfolding frameOctets msgOctets frameMessage messageAt
+  plain-octets c = ap frameOctets (sym (plain-view (messageAt s h) c)) ∙ view-octets s h w
+
+  pub sure-octets : h .confirmation ≡ 1 → msgOctets (sureIn (messageAt s h)) ≡ bareTo s (h .end)
+  unfolding frameOctets msgOctets frameMessage messageAt
+  sure-octets c = ap frameOctets (sym (sure-view (messageAt s h) c)) ∙ view-octets s h w
+
 -- ---- a frame without extension fields is its own octets
 
 read-valid : (s : List ℕ) (d : Decoded) (f : Frame) (n : ℕ) → ((i : ℕ) → octet s i < 256) → decode s ≡ d → heard d ≡ good f n →

@@ -7,3 +7,4 @@ pub mod Events
 pub mod Picture
 pub mod Sound
 pub mod Step
+pub mod Ready

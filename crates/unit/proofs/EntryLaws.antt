@@ -1,0 +1,165 @@
+-- The entry: the tests before the event, the turn table, and what each event is handed to. Closed by cases on the event and the state.
+use Prim.Native.Nat.{ℕ, zero, suc, _+_, _-_, _<_, _≤_}
+use mathlib.Core.Path.{_≡_, refl, ap, sym, _∙_}
+use mathlib.Core.Bool.{Bool, true, false}
+use mathlib.Core.Option.{Option, none, some}
+use mathlib.Core.List.{List, [], _∷_}
+use native.Mathlib.Omega.{arith}
+use borrow.Author.Tests.{lt-ltb, le-ltb}
+use lib.Dec.{ltb}
+use lib.ListN.{length, take, drop, length-drop, drop-of-length-le}
+use lib.Seq.{take-all}
+use Rattle.octets.specs.Choice.{pick}
+use Rattle.frame.specs.declared.Header.{Header}
+use Rattle.frame.specs.declared.Fault.{Fault}
+use Rattle.frame.specs.declared.Reading.{Reading as Answer}
+use Rattle.frame.specs.declared.Reading.the-variants.{Whole, Faulty}
+use Rattle.frame.specs.Reading.{readingOf}
+use Rattle.frame.specs.Decoding.{partAt}
+use Rattle.book.specs.declared.Terms.{Terms}
+use Rattle.book.specs.declared.Unit.{Unit as Value}
+use Rattle.book.specs.declared.Turn.{Turn}
+use Rattle.book.specs.declared.Verdict.the-variants.{Done, Refused}
+use Rattle.book.specs.declared.Event.{Event}
+use Rattle.book.specs.declared.Event.the-variants.{Malformed, Transfer, End, Tick, StartAsked, StartAnswered, Data, EndAsked, EndAnswered, Aborted, Dropped}
+use Rattle.book.specs.Book.{State, idle, single, multi, ending, assoc, Setup, Outcome, refused, done, on-end, on-tick, on-start, on-reply, on-dat, on-fin, on-finOk, on-abort}
+use Rattle.book.specs.View.{readingIn}
+use Rattle.book.specs.Turns.{takes}
+use Rattle.book.specs.Events.{eventOf, frameFrom}
+use Rattle.book.specs.Picture.{picture, setupOf, stateOf, padded, noTerms}
+use Rattle.book.specs.Sound.{soundOf, withinLimits}
+use Rattle.book.specs.Step.{does, step, Turned, turnOf, setUp, blank}
+use Rattle.book.specs.Ready.{Ready}
+use Rattle.unit.specs.Moves.{made}
+use Rattle.unit.specs.Saying.{columnOf, userDataOf}
+use Rattle.unit.proofs.Moved.{not-taken, made-is, padded-none}
+use Rattle.unit.proofs.Gave.{turned-as}
+
+-- ---- a part of the event
+
+pub after-none : (ev : List ℕ) (from : ℕ) → length ev < from → [] ≡ drop from ev
+after-none ev from h = sym (drop-of-length-le ev {i = from} (omega arith))
+
+pub after-some : (ev : List ℕ) (from n : ℕ) → n ≡ length ev → from ≤ length ev → take (n - from) (drop from ev) ≡ drop from ev
+after-some ev from n e h = take-all (n - from) (drop from ev) (omega (arith, length-drop from ev))
+
+-- ---- THE TURN TABLE AND THE RULE BOOK: an event that the table doesn't take is refused with 1 by the rule book
+
+module _ (s : Setup) (u : Value) (f : List ℕ) where
+  always : {A : Type 0} (st : State) → u ≡ picture s st → takes (u .state) 3 ≡ false → A
+  unfolding takes
+  always idle p t = not-taken (sym (rw p at t))
+  always (single a w t₀) p t = not-taken (sym (rw p at t))
+  always (multi a k t₀) p t = not-taken (sym (rw p at t))
+  always (ending a w t₀) p t = not-taken (sym (rw p at t))
+  always (assoc a w t₀) p t = not-taken (sym (rw p at t))
+
+  refused-1 : (e : Event) (st : State) → u ≡ picture s st → takes (u .state) (columnOf e) ≡ false → does s e f st ≡ refused 1
+  unfolding does takes on-end on-start on-reply on-dat on-fin on-finOk on-abort
+  refused-1 Malformed st p t = always st p t
+  refused-1 (Transfer c a) st p t = always st p t
+  refused-1 Tick st p t = always st p t
+  refused-1 End idle p t = refl
+  refused-1 End (single a w t₀) p t = refl
+  refused-1 End (multi a k t₀) p t = refl
+  refused-1 End (ending a w t₀) p t = refl
+  refused-1 End (assoc a w t₀) p t = not-taken (sym (rw p at t))
+  refused-1 (StartAsked b) idle p t = not-taken (sym (rw p at t))
+  refused-1 (StartAsked b) (single a w t₀) p t = refl
+  refused-1 (StartAsked b) (multi a k t₀) p t = refl
+  refused-1 (StartAsked b) (ending a w t₀) p t = refl
+  refused-1 (StartAsked b) (assoc a w t₀) p t = refl
+  refused-1 (StartAnswered b) idle p t = refl
+  refused-1 (StartAnswered b) (single a w t₀) p t = not-taken (sym (rw p at t))
+  refused-1 (StartAnswered b) (multi a k t₀) p t = not-taken (sym (rw p at t))
+  refused-1 (StartAnswered b) (ending a w t₀) p t = refl
+  refused-1 (StartAnswered b) (assoc a w t₀) p t = refl
+  refused-1 Data idle p t = refl
+  refused-1 Data (single a w t₀) p t = refl
+  refused-1 Data (multi a k t₀) p t = refl
+  refused-1 Data (ending a w t₀) p t = not-taken (sym (rw p at t))
+  refused-1 Data (assoc a w t₀) p t = not-taken (sym (rw p at t))
+  refused-1 EndAsked idle p t = refl
+  refused-1 EndAsked (single a w t₀) p t = refl
+  refused-1 EndAsked (multi a k t₀) p t = refl
+  refused-1 EndAsked (ending a w t₀) p t = refl
+  refused-1 EndAsked (assoc a w t₀) p t = not-taken (sym (rw p at t))
+  refused-1 (EndAnswered b) idle p t = refl
+  refused-1 (EndAnswered b) (single a w t₀) p t = refl
+  refused-1 (EndAnswered b) (multi a k t₀) p t = refl
+  refused-1 (EndAnswered b) (ending a w t₀) p t = not-taken (sym (rw p at t))
+  refused-1 (EndAnswered b) (assoc a w t₀) p t = refl
+  refused-1 Aborted idle p t = refl
+  refused-1 Aborted (single a w t₀) p t = not-taken (sym (rw p at t))
+  refused-1 Aborted (multi a k t₀) p t = not-taken (sym (rw p at t))
+  refused-1 Aborted (ending a w t₀) p t = not-taken (sym (rw p at t))
+  refused-1 Aborted (assoc a w t₀) p t = not-taken (sym (rw p at t))
+  refused-1 Dropped idle p t = refl
+  refused-1 Dropped (single a w t₀) p t = not-taken (sym (rw p at t))
+  refused-1 Dropped (multi a k t₀) p t = not-taken (sym (rw p at t))
+  refused-1 Dropped (ending a w t₀) p t = not-taken (sym (rw p at t))
+  refused-1 Dropped (assoc a w t₀) p t = not-taken (sym (rw p at t))
+
+pub acts-no : {u : Value} (k : Ready u) (e : Event) (f : List ℕ) {c : ℕ} {b : Bool} → c ≡ columnOf e → b ≡ takes (u .state) c → b ≡ false
+    → does (setupOf u) e f (stateOf u) ≡ refused 1
+acts-no {u} k e f q g h = refused-1 (setupOf u) u f e (stateOf u) (k .whole) (ap (takes (u .state)) (sym q) ∙ sym g ∙ h)
+
+pub acts-yes : (u : Value) (e : Event) {c : ℕ} {b : Bool} → c ≡ columnOf e → b ≡ takes (u .state) c → b ≡ true → takes (u .state) (columnOf e) ≡ true
+acts-yes u e q g h = ap (takes (u .state)) (sym q) ∙ sym g ∙ h
+
+-- what the table says of an event, once it is known which it is
+pub takes-as : (u : Value) {e g : Event} {c : ℕ} → e ≡ g → c ≡ columnOf g → takes (u .state) (columnOf e) ≡ true → takes (u .state) c ≡ true
+takes-as u q c t = ap (takes (u .state)) (c ∙ ap columnOf (sym q)) ∙ t
+
+pub takes-dropped : (u : Value) {e : Event} → e ≡ Dropped → takes (u .state) (columnOf e) ≡ true → takes (u .state) 9 ≡ true
+unfolding takes
+takes-dropped u q t = ap (λ x. takes (u .state) (columnOf x)) (sym q) ∙ t
+
+-- ---- what each event does
+
+module _ (u : Value) (ev : List ℕ) {e : Event} {r : Turn} {before after : List ℕ} where
+  pub does-as : (g : Event) → e ≡ g → Turned u (does (setupOf u) g (drop (frameFrom g) ev) (stateOf u)) before r after →
+      Turned u (does (setupOf u) e (drop (frameFrom e) ev) (stateOf u)) before r after
+  does-as g q t = turned-as (ap (λ x. does (setupOf u) x (drop (frameFrom x) ev) (stateOf u)) q) t
+
+-- ---- the tests before the event
+
+module _ (room : ℕ) (u : Value) (ev : List ℕ) where
+  pub step-small : room < 1024 → step room u ev ≡ refused 6
+  unfolding step
+  step-small h = rw (lt-ltb room 1024 h)
+
+  pub step-unsound : 1024 ≤ room → {b : Bool} → b ≡ soundOf u → b ≡ false → step room u ev ≡ refused 9
+  unfolding step
+  step-unsound h q z = rw (le-ltb room 1024 h, sym q ∙ z)
+
+  pub step-does : 1024 ≤ room → {b : Bool} → b ≡ soundOf u → b ≡ true → {e : Event} → e ≡ eventOf ev →
+      step room u ev ≡ does (setupOf u) e (drop (frameFrom e) ev) (stateOf u)
+  unfolding step
+  step-does h q z g = rw (le-ltb room 1024 h, sym q ∙ z, g)
+
+-- ---- setup
+
+module _ (start end quiet : ℕ) (name : List ℕ) {b : Bool} (q : b ≡ withinLimits start end quiet (length name)) where
+  pub set-up : b ≡ true → {letters : List ℕ} {u : Value} {r : Turn} → letters ≡ padded 32 name → u ≡ made start end quiet letters (length name) →
+      r ≡ record { unit = u; verdict = Done 0 0 } → r ≡ setUp start end quiet name
+  unfolding setUp
+  set-up z el eu er = er ∙ rw (sym q ∙ z) (ap (λ v. record { unit = v; verdict = Done 0 0 }) (eu ∙ ap (λ l. made start end quiet l (length name)) el ∙ made-is start end quiet name))
+
+  pub not-set : b ≡ false → {u : Value} {r : Turn} → u ≡ blank → r ≡ turnOf u (refused 7) → r ≡ setUp start end quiet name
+  unfolding setUp turnOf
+  not-set z eu er = er ∙ rw (sym q ∙ z, eu)
+
+-- ---- the user data of an event
+
+module _ (ev : List ℕ) {e : Event} {from : ℕ} {f : List ℕ} {x : Answer} (qe : e ≡ eventOf ev) (qf : from ≡ frameFrom e) (q : f ≡ drop from ev) (qx : x ≡ readingOf f) where
+  frame-part : f ≡ drop (frameFrom (eventOf ev)) ev
+  frame-part = q ∙ ap (λ n. drop n ev) (qf ∙ ap frameFrom qe)
+
+  pub data-none : {y : Fault} → x ≡ Faulty y → {g : List ℕ} → g ≡ drop (length ev) ev → g ≡ userDataOf ev
+  unfolding userDataOf
+  data-none z eg = eg ∙ drop-of-length-le ev {i = length ev} (omega arith) ∙ rw (← frame-part, sym qx ∙ z)
+
+  pub data-some : {h : Header} {n : ℕ} → x ≡ Whole h n → {g : List ℕ} → g ≡ partAt f (h .«user_data») → g ≡ userDataOf ev
+  unfolding userDataOf
+  data-some z eg = eg ∙ rw (← frame-part, sym qx ∙ z)

@@ -1,0 +1,4 @@
+pub mod Pens
+pub mod Notes
+pub mod Moves
+pub mod Saying

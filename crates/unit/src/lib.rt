@@ -1,0 +1,206 @@
+// The dialogue unit: setup, one event, and the user data of an event. Rules: 01, "The five states".
+ghost use mathlib.Core.Path.{_≡_};
+ghost use mathlib.Core.Bool.{true};
+ghost use mathlib.Core.List.{[]};
+ghost use Prim.Native.Nat.{_≤_, _<_};
+ghost use lib.ListN.{length, drop};
+ghost use Rattle.book.specs.Book as Book;
+ghost use Rattle.book.specs.Picture.{setupOf, stateOf};
+ghost use Rattle.book.specs.Turns.{takes};
+ghost use Rattle.book.specs.Events.{frameFrom};
+ghost use Rattle.book.specs.Step.{does, step, turnOf, Turned, setUp};
+ghost use Rattle.book.specs.Ready.{Ready};
+ghost use Rattle.book.specs.Picture.{padded};
+ghost use Rattle.unit.specs.Moves.{made};
+ghost use Rattle.unit.specs.Saying.{columnOf, userDataOf};
+use book::Event;
+use book::Terms;
+use book::Turn;
+use book::Unit;
+use book::Verdict;
+use frame::Reading;
+use lines::Pen;
+use state::events;
+use state::sound;
+use state::turns;
+
+mod data;
+mod ends;
+mod lines;
+mod moves;
+mod requests;
+mod starts;
+
+// A refusal: the unit as it was.
+fn refuse(u: Unit, number: u8) -> Turn
+    ensures { λ r. ⌜ r ≡ turnOf u (Book.refused number) ⌝ }
+{
+    let v = Verdict::Refused(number);
+    Turn {
+        unit: u,
+        verdict: v,
+    }
+}
+
+// An accepted event: the next unit, and what was laid.
+fn finished(v: Unit, pen: Pen) -> Turn
+    ensures { λ r. ⌜ r ≡ record { unit = v; verdict = Verdict.Done (pen .lines) (pen .at) } ⌝ }
+{
+    let d = Verdict::Done {
+        lines: pen.lines,
+        octets: pen.at,
+    };
+    Turn {
+        unit: v,
+        verdict: d,
+    }
+}
+
+// An event without its first octets; nothing where it has no more.
+fn after(event: &[u8], from: usize) -> &[u8]
+    ensures { λ r. ⌜ now r ≡ drop from (now (event .entry)) ⌝ }
+{
+    if event.len() < from {
+        return &event[..0];
+    }
+    &event[from..]
+}
+
+// The column of an event in the turn table. A request is looked up once its frame is read, and a malformed event not at all: both have the column
+// that every state takes.
+fn column_of(e: Event) -> usize
+    ensures { λ r. ⌜ r ≡ columnOf e ⌝ }
+{
+    match e {
+        Event::Malformed => 3,
+        Event::Transfer(_, _) => 3,
+        Event::End => 2,
+        Event::Tick => 3,
+        Event::StartAsked(_) => 4,
+        Event::StartAnswered(_) => 5,
+        Event::Data => 6,
+        Event::EndAsked => 7,
+        Event::EndAnswered(_) => 8,
+        Event::Aborted => 9,
+        Event::Dropped => 10,
+    }
+}
+
+// What an event does in a state that takes it.
+fn perform(u: Unit, e: Event, event: &[u8], out: &mut [u8]) -> Turn
+    requires { ⌜ (Ready u) × ((takes (u .state) (columnOf e) ≡ true) × (1024 ≤ length (now out))) ⌝ }
+    ensures { λ r. ⌜ Turned u (does (setupOf u) e (drop (frameFrom e) (now (event .entry))) (stateOf u)) (now (out .entry)) r (now (out .exit)) ⌝ }
+{
+    match e {
+        Event::Malformed => refuse(u, 8),
+        Event::Transfer(confirmed, terms) => {
+            requests::on_request(u, confirmed, terms, after(event, 4), out)
+        }
+        Event::End => ends::on_end(u, out),
+        Event::Tick => ends::on_tick(u, out),
+        Event::StartAsked(terms) => starts::on_start(u, terms, after(event, 4), out),
+        Event::StartAnswered(accepted) => starts::on_reply(u, accepted, after(event, 2), out),
+        Event::Data => data::on_data(u, after(event, 1), out),
+        Event::EndAsked => ends::on_end_asked(u, out),
+        Event::EndAnswered(accepted) => ends::on_end_answered(u, out, accepted),
+        Event::Aborted => ends::on_abort(u, out, 0),
+        Event::Dropped => ends::on_abort(u, out, 1),
+    }
+}
+
+// The event of a sound unit: refusal 1 by the turn table, or what it does.
+fn act(u: Unit, e: Event, event: &[u8], out: &mut [u8]) -> Turn
+    requires { ⌜ (Ready u) × (1024 ≤ length (now out)) ⌝ }
+    ensures { λ r. ⌜ Turned u (does (setupOf u) e (drop (frameFrom e) (now (event .entry))) (stateOf u)) (now (out .entry)) r (now (out .exit)) ⌝ }
+{
+    let column = column_of(e);
+    let s = u.state as usize;
+    if turns::taken(s, column) {
+        return perform(u, e, event, out);
+    }
+    refuse(u, 1)
+}
+
+// One event: the unit after it, and its lines in the lent buffer.
+pub fn handle(unit: Unit, event: &[u8], out: &mut [u8]) -> Turn
+    ensures { λ r. ⌜ Turned unit (step (length (now (out .entry))) unit (now (event .entry))) (now (out .entry)) r (now (out .exit)) ⌝ }
+{
+    if out.len() < 1024 {
+        return refuse(unit, 6);
+    }
+    if sound::sound(unit) {
+        let e = events::event_of(event);
+        return act(unit, e, event, out);
+    }
+    refuse(unit, 9)
+}
+
+// The name at the front of an array of 0.
+fn name_of(name: &[u8]) -> [u8; 32]
+    requires { ⌜ length (now name) ≤ 32 ⌝ }
+    ensures { λ r. ⌜ r ≡ padded 32 (now (name .entry)) ⌝ }
+{
+    let mut letters = [0u8; 32];
+    let mut i = 0;
+    while i < name.len() {
+        letters[i] = name[i];
+        i += 1;
+    }
+    letters
+}
+
+// A unit in Idle with this setup and this name.
+fn new_unit(start: u16, end: u16, quiet: u16, name: [u8; 32], letters: usize) -> Unit
+    ensures { λ r. ⌜ r ≡ made start end quiet name letters ⌝ }
+{
+    let t = Terms {
+        class: 0,
+        priority: 0,
+        rer: 0,
+    };
+    Unit {
+        name: name,
+        waiting: [0u16; 8],
+        kept: [0u8; 554],
+        state: 0,
+        start: start,
+        end: end,
+        quiet: quiet,
+        elapsed: 0,
+        terms: t,
+        letters: letters,
+        count: 0,
+        octets: 0,
+    }
+}
+
+// A new unit: its limits in ticks, and its name. Refusal 7, and a unit with every number 0, where they are out of range.
+pub fn setup(start: u16, end: u16, quiet: u16, name: &[u8]) -> Turn
+    ensures { λ r. ⌜ r ≡ setUp start end quiet (now (name .entry)) ⌝ }
+{
+    if sound::within_limits(start, end, quiet, name.len()) {
+        let letters = name_of(name);
+        let unit = new_unit(start, end, quiet, letters, name.len());
+        return finished(unit, Pen { at: 0, lines: 0 });
+    }
+    let unit = new_unit(0, 0, 0, [0u8; 32], 0);
+    refuse(unit, 7)
+}
+
+// The user data of the frame that an event carries, as the very octets of the event; nothing where there are none.
+pub fn user_data(event: &[u8]) -> &[u8]
+    ensures { λ r. ⌜ now r ≡ userDataOf (now (event .entry)) ⌝ }
+{
+    let e = events::event_of(event);
+    let from = events::frame_from(e);
+    let frame = after(event, from);
+    let reading = frame::read(frame);
+    let Reading::Whole {
+        header,
+        extensions: _,
+    } = reading
+    else {
+        return after(event, event.len());
+    };
+    frame::user_data(frame, header)
+}
