@@ -83,9 +83,16 @@ octets-short f a = Laws.short (frameMessage f) a
 pub record Reads (s : List ℕ) (h : Header) (n : ℕ) : Type 0 where
   pub reads : readingOf s ≡ Whole h n
   pub small : (i : ℕ) → octet s i < 256
+  -- what the code needs to know of the numbers, so that it is found here
+  pub few : n ≤ 511
+  pub two : 2 ≤ h .end
+  pub within : h .end ≤ length s
+  pub short : h .end ≤ 554
 
 pub reads-made : (s : List ℕ) (h : Header) (n : ℕ) {x : Answer} → x ≡ readingOf s → x ≡ Whole h n → ((i : ℕ) → octet s i < 256) → Reads s h n
-reads-made s h n q e small = record { reads = sym q ∙ e; small = small }
+reads-made s h n q e small =
+    let k = known s small h n (sym q ∙ e) in
+    record { reads = sym q ∙ e; small = small; few = k .few; two = k .two; within = k .within; short = k .short }
 
 -- the frame that a header points at
 abbrev pub frameAt : List ℕ → Header → Frame

@@ -2,7 +2,6 @@
 ghost use mathlib.Core.Path.{_≡_};
 ghost use lib.ListN.{take, set};
 ghost use Rattle.book.specs.Waiting.{placeOf, closed};
-
 use book::Found;
 
 // Where an identifier stands among the first n.

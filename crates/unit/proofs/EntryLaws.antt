@@ -5,11 +5,11 @@ use mathlib.Core.Bool.{Bool, true, false}
 use mathlib.Core.Option.{Option, none, some}
 use mathlib.Core.List.{List, [], _∷_}
 use native.Mathlib.Omega.{arith}
-use borrow.Author.Tests.{lt-ltb, le-ltb}
+use borrow.Author.Tests.{lt-ltb, le-ltb, leb-true}
 use lib.Dec.{ltb}
 use lib.ListN.{length, take, drop, length-drop, drop-of-length-le}
 use lib.Seq.{take-all}
-use Rattle.octets.specs.Choice.{pick}
+use Rattle.octets.specs.Choice.{pick, both}
 use Rattle.frame.specs.declared.Header.{Header}
 use Rattle.frame.specs.declared.Fault.{Fault}
 use Rattle.frame.specs.declared.Reading.{Reading as Answer}
@@ -22,13 +22,13 @@ use Rattle.book.specs.declared.Turn.{Turn}
 use Rattle.book.specs.declared.Verdict.the-variants.{Done, Refused}
 use Rattle.book.specs.declared.Event.{Event}
 use Rattle.book.specs.declared.Event.the-variants.{Malformed, Transfer, End, Tick, StartAsked, StartAnswered, Data, EndAsked, EndAnswered, Aborted, Dropped}
-use Rattle.book.specs.Book.{State, idle, single, multi, ending, assoc, Setup, Outcome, refused, done, on-end, on-tick, on-start, on-reply, on-dat, on-fin, on-finOk, on-abort}
+use Rattle.book.specs.Book.{State, idle, single, multi, ending, assoc, Setup, Outcome, refused, done, on-request, on-end, on-tick, on-start, on-reply, on-dat, on-fin, on-finOk, on-abort}
 use Rattle.book.specs.View.{readingIn}
 use Rattle.book.specs.Turns.{takes}
 use Rattle.book.specs.Events.{eventOf, frameFrom}
 use Rattle.book.specs.Picture.{picture, setupOf, stateOf, padded, noTerms}
 use Rattle.book.specs.Sound.{soundOf, withinLimits}
-use Rattle.book.specs.Step.{does, step, Turned, turnOf, setUp, blank}
+use Rattle.book.specs.Step.{does, orNothing, step, Turned, turnOf, setUp, blank}
 use Rattle.book.specs.Ready.{Ready}
 use Rattle.unit.specs.Moves.{made}
 use Rattle.unit.specs.Saying.{columnOf, userDataOf}
@@ -122,6 +122,32 @@ module _ (u : Value) (ev : List ℕ) {e : Event} {r : Turn} {before after : List
       Turned u (does (setupOf u) e (drop (frameFrom e) ev) (stateOf u)) before r after
   does-as g q t = turned-as (ap (λ x. does (setupOf u) x (drop (frameFrom x) ev) (stateOf u)) q) t
 
+-- the events that carry a frame, f
+module _ (u : Value) (ev f : List ℕ) {e : Event} {r : Turn} {before after : List ℕ} where
+  pub does-transfer : (c : Bool) (a : Terms) → e ≡ Transfer c a → f ≡ drop 4 ev → Turned u (on-request c a (readingIn f) (stateOf u)) before r after →
+      Turned u (does (setupOf u) e (drop (frameFrom e) ev) (stateOf u)) before r after
+  unfolding does
+  does-transfer c a q z t = does-as u ev (Transfer c a) q (turned-as (ap (λ g. on-request c a (readingIn g) (stateOf u)) (sym z)) t)
+
+  pub does-start : (a : Terms) → e ≡ StartAsked a → f ≡ drop 4 ev → Turned u (on-start (setupOf u) a (orNothing f) (stateOf u)) before r after →
+      Turned u (does (setupOf u) e (drop (frameFrom e) ev) (stateOf u)) before r after
+  unfolding does
+  does-start a q z t = does-as u ev (StartAsked a) q (turned-as (ap (λ g. on-start (setupOf u) a (orNothing g) (stateOf u)) (sym z)) t)
+
+  pub does-reply : (b : Bool) → e ≡ StartAnswered b → f ≡ drop 2 ev → Turned u (on-reply (setupOf u) b (orNothing f) (stateOf u)) before r after →
+      Turned u (does (setupOf u) e (drop (frameFrom e) ev) (stateOf u)) before r after
+  unfolding does
+  does-reply b q z t = does-as u ev (StartAnswered b) q (turned-as (ap (λ g. on-reply (setupOf u) b (orNothing g) (stateOf u)) (sym z)) t)
+
+  pub does-data : e ≡ Data → f ≡ drop 1 ev → Turned u (on-dat (setupOf u) (readingIn f) (stateOf u)) before r after →
+      Turned u (does (setupOf u) e (drop (frameFrom e) ev) (stateOf u)) before r after
+  unfolding does
+  does-data q z t = does-as u ev Data q (turned-as (ap (λ g. on-dat (setupOf u) (readingIn g) (stateOf u)) (sym z)) t)
+
+pub does-malformed : (u : Value) (ev : List ℕ) {e : Event} → e ≡ Malformed → does (setupOf u) e (drop (frameFrom e) ev) (stateOf u) ≡ refused 8
+unfolding does
+does-malformed u ev q = ap (λ x. does (setupOf u) x (drop (frameFrom x) ev) (stateOf u)) q
+
 -- ---- the tests before the event
 
 module _ (room : ℕ) (u : Value) (ev : List ℕ) where
@@ -139,6 +165,15 @@ module _ (room : ℕ) (u : Value) (ev : List ℕ) where
   step-does h q z g = rw (le-ltb room 1024 h, sym q ∙ z, g)
 
 -- ---- setup
+
+both-right : (a b : Bool) → both a b ≡ true → b ≡ true
+both-right true b e = e
+both-right false b e = not-taken e
+
+pub within-name : (start end quiet letters : ℕ) → withinLimits start end quiet letters ≡ true → letters ≤ 32
+unfolding withinLimits
+within-name start end quiet letters e =
+    leb-true letters 32 (both-right (ltb 0 letters) _ (both-right (ltb 0 quiet) _ (both-right (ltb 0 end) _ (both-right (ltb 0 start) _ e))))
 
 module _ (start end quiet : ℕ) (name : List ℕ) {b : Bool} (q : b ≡ withinLimits start end quiet (length name)) where
   pub set-up : b ≡ true → {letters : List ℕ} {u : Value} {r : Turn} → letters ≡ padded 32 name → u ≡ made start end quiet letters (length name) →

@@ -7,8 +7,9 @@ use native.Mathlib.Omega.{arith}
 use native.Mathlib.Nat.{sub-zero}
 use borrow.Author.Tests.{eq-eqb, ne-eqb}
 use lib.Dec.{eqb}
-use lib.ListN.{length, take, drop, set, replicate, length-append, length-drop, length-replicate, replicate-append-replicate}
-use lib.Seq.{take-append-seam, take-append-le, drop-append-le, length-take-le, set-append-seam, sets, sets-eq}
+use native.Mathlib.Numerals.{add-one}
+use lib.ListN.{getD, drop-of-length-le, length, take, drop, set, replicate, length-append, length-drop, length-replicate, replicate-append-replicate}
+use lib.Seq.{drop-cons, take-append-seam, take-append-le, drop-append-le, length-take-le, set-append-seam, sets, sets-eq}
 use native.Mathlib.Nat.{zero-add, not-suc-le-zero}
 use borrow.Author.Tests.{lt-ltb}
 use Rattle.book.specs.Book.{Msg, State, idle, single, multi, ending, assoc, Setup, idsOf, waitingOf}
@@ -173,3 +174,11 @@ begun-assoc s T k t u e = rw (e, padded-none 554)
 pub made-is : (start end quiet : ℕ) (name : List ℕ) →
     made start end quiet (padded 32 name) (length name) ≡ picture (record { name = name; start-limit = start; end-limit = end; inactivity-limit = quiet }) idle
 made-is start end quiet name = rw (padded-none 8, padded-none 554)
+
+-- ---- a frame or a name, put into an array of its own octet by octet
+
+pub own-step : (l : List ℕ) (i : ℕ) (s : List ℕ) → i < length s → sets (set l i (getD s i 0)) (i + 1) (drop (i + 1) s) ≡ sets l i (drop i s)
+own-step l i s h = rw (add-one, drop-cons s i 0 h)
+
+pub own-end : (l : List ℕ) (i n : ℕ) (s : List ℕ) → length s ≤ i → length s ≤ n → sets l i (drop i s) ≡ sets (replicate n 0) 0 s → l ≡ padded n s
+own-end l i n s h m e = rw (drop-of-length-le s {i = i} h) at e ∙ padded-sets n s m

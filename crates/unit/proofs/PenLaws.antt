@@ -136,17 +136,12 @@ line-note head n name size p h l e x y = line-made head (noteOctets n name) size
 
 -- ---- the answers made locally
 
-abbrev noteSaid : Say → ℕ → Note
-noteSaid say id = record { «multi_shot» = say .«multi_shot»; confirmation = say .confirmation; «message_type» = NoOctet; reference = id }
-
-pub line-answer : (say : Say) (name : List ℕ) (id letters shot : ℕ) (p : Pen) {b b1 a : List ℕ} {j r : ℕ} → 2 ≤ say .confirmation → say .confirmation ≤ 4 →
-    length name ≡ letters → letters ≤ 32 → shot ≡ weight (say .«multi_shot») 1 →
-    Put b (p .at) ((7 + letters) / 256 ∷ (7 + letters) % 256 ∷ 0x22 ∷ say .result ∷ (24 + shot) ∷ say .confirmation ∷ id / 256 ∷ id % 256 ∷ letters % 256 ∷ []) b1 j →
-    Put b1 j name a r → Laid b p (answerLine say name id ∷ []) a (record { at = r; lines = p .lines + 1 })
-line-answer say name id letters shot p h l e m f x y =
-    let g : letters % 256 ≡ length name = omega arith in
-    laid-as (ap (λ k. k ∷ []) (rw (g, f) (ap (λ k. 0x22 ∷ say .result ∷ k) (sym (note-is (noteSaid say id) name h l)))))
-    (line-made (0x22 ∷ say .result ∷ (24 + shot) ∷ say .confirmation ∷ id / 256 ∷ id % 256 ∷ letters % 256 ∷ []) name letters 0 p e x y)
-
 pub answers-more : (f : ℕ → List ℕ) (ids : List ℕ) (i : ℕ) → i < length ids → map f (take i ids) ++ (f (getD ids i 0) ∷ []) ≡ map f (take (i + 1) ids)
 answers-more f ids i h = rw (add-one, take-suc ids i 0 h, map-append f)
+
+-- how many octets a note takes
+pub size-none : (t : OneOctet) (n : ℕ) → t ≡ NoOctet → 5 + n ≡ 5 + length (typeOctets (octetIn t)) + n
+size-none t n e = rw e (omega arith)
+
+pub size-some : (t : OneOctet) (n x : ℕ) → t ≡ Octet x → 6 + n ≡ 5 + length (typeOctets (octetIn t)) + n
+size-some t n x e = rw e (omega arith)

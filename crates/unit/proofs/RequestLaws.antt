@@ -37,7 +37,7 @@ use Rattle.book.specs.Waiting.{placeOf}
 use Rattle.book.specs.Picture.{picture, setupOf, stateOf, idsIn, msgIn}
 use Rattle.book.specs.Step.{Turned, turnOf}
 use Rattle.book.specs.Ready.{Ready}
-use Rattle.book.proofs.Views.{Reads, frameAt, know, view-octets, faulty-reading, whole-reading, plainIn, sureIn, noteIn, kindFor, plain-view, sure-view, note-view}
+use Rattle.book.proofs.Views.{Reads, reads-made, frameAt, know, view-octets, faulty-reading, whole-reading, plainIn, sureIn, noteIn, kindFor, plain-view, sure-view, note-view}
 use Rattle.unit.specs.declared.lines.Pen.{Pen}
 use Rattle.unit.specs.Pens.{Laid}
 use Rattle.unit.specs.Moves.{advanced, entered, keeping, appended, joined}
@@ -416,4 +416,22 @@ module _ (u : Value) (confirmed : Bool) (a : Terms) (f : List ℕ) {x : Answer} 
           ∙ ap (λ (b : Bool). on-shot b a (msgAt f h) (stateOf u)) (shot-is f h (omega arith))) g
 
 pub reads-zero : (f : List ℕ) (h : Header) (n : ℕ) {x : Answer} → x ≡ readingOf f → x ≡ Whole h n → n ≡ 0 → ((i : ℕ) → octet f i < 256) → Reads f h 0
-reads-zero f h n q e z small = record { reads = sym q ∙ e ∙ ap (Whole h) z; small = small }
+reads-zero f h n q e z small = reads-made f h 0 q (e ∙ ap (Whole h) z) small
+
+-- ---- nobody waits in Idle, so there is room for one
+
+idle-count : (s : Setup) (u : Value) (st : State) → u ≡ picture s st → u .state ≡ 0 → u .count ≡ 0
+idle-count s u idle e n = rw e
+idle-count s u (single T w t) e n = let z : _≡_ {A = ℕ} 1 0 = rw e at n in absurd (omega arith)
+idle-count s u (multi T k t) e n = let z : _≡_ {A = ℕ} 2 0 = rw e at n in absurd (omega arith)
+idle-count s u (ending T w t) e n = let z : _≡_ {A = ℕ} 3 0 = rw e at n in absurd (omega arith)
+idle-count s u (assoc T w t) e n = let z : _≡_ {A = ℕ} 4 0 = rw e at n in absurd (omega arith)
+
+module _ {u : Value} (k : Ready u) (z : u .state ≡ 0) (n : ℕ) (t : Terms) {v : Value} (e : v ≡ entered u n t) where
+  pub idle-room : v .count < 8
+  unfolding entered
+  idle-room = omega (arith, ap (λ (y : Value). y .count) e, idle-count (setupOf u) u (stateOf u) (k .whole) z)
+
+  pub kept-room : (f : List ℕ) {x : Value} → x ≡ keeping v f → x .count < 8
+  unfolding entered keeping
+  kept-room f q = omega (arith, ap (λ (y : Value). y .count) q, ap (λ (y : Value). y .count) e, idle-count (setupOf u) u (stateOf u) (k .whole) z)

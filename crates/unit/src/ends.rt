@@ -23,8 +23,8 @@ use state::sound;
 
 // Every waiting identifier answered uncertain.
 pub(crate) fn put_uncertain(out: &mut [u8], pen: Pen, u: Unit) -> Pen
-    requires { ⌜ (Ready u) × ((pen .lines ≤ 10) × (pen .at + 328 ≤ length (now out))) ⌝ }
-    ensures { λ r. ⌜ (Laid (now (out .entry)) pen (doubts u) (now (out .exit)) r) × (r .at ≤ pen .at + 328) ⌝ }
+    requires { ⌜ (Ready u) × ((pen .lines ≤ 10) × (pen .at + 338 ≤ length (now out))) ⌝ }
+    ensures { λ r. ⌜ (Laid (now (out .entry)) pen (doubts u) (now (out .exit)) r) × ((r .at ≤ pen .at + 336) × (r .lines ≤ pen .lines + 8)) ⌝ }
 {
     let say = Say {
         result: 2,
@@ -38,7 +38,7 @@ pub(crate) fn put_uncertain(out: &mut [u8], pen: Pen, u: Unit) -> Pen
 
 // A fall's lines after its 35: every waiting identifier answered uncertain, then 24.
 fn put_lost(out: &mut [u8], pen: Pen, u: Unit, reason: u8) -> Pen
-    requires { ⌜ (Ready u) × ((pen .lines ≤ 10) × (pen .at + 334 ≤ length (now out))) ⌝ }
+    requires { ⌜ (Ready u) × ((pen .lines ≤ 10) × (pen .at + 344 ≤ length (now out))) ⌝ }
     ensures { λ r. ⌜ Laid (now (out .entry)) pen (doubts u ++ said (gone reason ∷ [])) (now (out .exit)) r ⌝ }
 {
     let next = put_uncertain(out, pen, u);

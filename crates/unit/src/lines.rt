@@ -153,26 +153,17 @@ pub(crate) struct Say {
 
 // Line 22 with an answer made locally.
 fn put_answer(out: &mut [u8], pen: Pen, say: Say, id: u16, name: [u8; 32], letters: usize) -> Pen
-    requires { ⌜ (say .confirmation ≤ 4) × ((2 ≤ say .confirmation) × ((letters ≤ 32) × ((pen .lines ≤ 100) × (pen .at + 9 + letters ≤ length (now out))))) ⌝ }
-    ensures { λ r. ⌜ (Laid (now (out .entry)) pen (answerLine say (take letters name) id ∷ []) (now (out .exit)) r) × (r .at ≡ pen .at + 9 + letters) ⌝ }
+    requires { ⌜ (say .confirmation ≤ 4) × ((2 ≤ say .confirmation) × ((letters ≤ 32) × ((pen .lines ≤ 100) × (pen .at + 12 + letters ≤ length (now out))))) ⌝ }
+    ensures { λ r. ⌜ (Laid (now (out .entry)) pen (answerLine say (take letters name) id ∷ []) (now (out .exit)) r) × (r .at ≤ pen .at + 10 + letters) ⌝ }
 {
-    let shot = bit_of(say.multi_shot);
-    let n = (letters % 256) as u8;
-    let head = [
-        0x22,
-        say.result,
-        24 + shot,
-        say.confirmation,
-        (id / 256) as u8,
-        (id % 256) as u8,
-        n,
-    ];
-    let next = put_head(out, pen.at, &head, letters);
-    let used = put(out, next, &name[..letters]);
-    Pen {
-        at: used,
-        lines: pen.lines + 1,
-    }
+    let note = Note {
+        multi_shot: say.multi_shot,
+        confirmation: say.confirmation,
+        message_type: OneOctet::NoOctet,
+        reference: id,
+    };
+    let head = [0x22, say.result];
+    put_noted(out, pen, &head, note, name, letters)
 }
 
 // A line 22 for each of the first n identifiers, in their order.
@@ -185,8 +176,8 @@ pub(crate) fn put_answers(
     name: [u8; 32],
     letters: usize,
 ) -> Pen
-    requires { ⌜ (say .confirmation ≤ 4) × ((2 ≤ say .confirmation) × ((letters ≤ 32) × ((n ≤ 8) × ((pen .lines ≤ 10) × (pen .at + 41 * n ≤ length (now out)))))) ⌝ }
-    ensures { λ r. ⌜ (Laid (now (out .entry)) pen (map (answerLine say (take letters name)) (take n ids)) (now (out .exit)) r) × (r .at ≤ pen .at + 41 * n) ⌝ }
+    requires { ⌜ (say .confirmation ≤ 4) × ((2 ≤ say .confirmation) × ((letters ≤ 32) × ((n ≤ 8) × ((pen .lines ≤ 10) × (pen .at + 42 * n + 2 ≤ length (now out)))))) ⌝ }
+    ensures { λ r. ⌜ (Laid (now (out .entry)) pen (map (answerLine say (take letters name)) (take n ids)) (now (out .exit)) r) × ((r .at ≤ pen .at + 42 * n) × (r .lines ≤ pen .lines + n)) ⌝ }
 {
     let mut next = pen;
     let mut i = 0;

@@ -1,0 +1,80 @@
+-- The tests that go along a list: one step, and the end.
+use Prim.Native.Nat.{ℕ, _+_, _-_, _<_, _≤_}
+use mathlib.Core.Path.{_≡_, refl, ap, sym, _∙_}
+use mathlib.Core.Bool.{Bool, true, false}
+use mathlib.Core.List.{List, [], _∷_}
+use native.Mathlib.Numerals.{add-one}
+use native.Mathlib.Omega.{arith}
+use borrow.Author.Tests.{eq-eqb, ne-eqb}
+use lib.ListN.{length, take, drop, getD, length-drop, drop-of-length-le}
+use lib.Seq.{drop-cons, take-all}
+use Rattle.book.specs.Sound.{zeros, member, differ}
+
+pub at-end : {B : Type 0} (f : List ℕ → B) (s : List ℕ) (i : ℕ) → length s ≤ i → f (drop i s) ≡ f []
+at-end f s i h = rw (drop-of-length-le s {i = i} h)
+
+at-next : {B : Type 0} (f : List ℕ → B) (s : List ℕ) (i : ℕ) → i < length s → f (drop i s) ≡ f (getD s i 0 ∷ drop (i + 1) s)
+at-next f s i h = rw (add-one, drop-cons s i 0 h)
+
+-- the part of a slice from a place to its end
+pub to-end : (s : List ℕ) (a n : ℕ) → length s ≡ n → take (n - a) (drop a s) ≡ drop a s
+to-end s a n e = take-all (n - a) (drop a s) (omega (arith, length-drop a s))
+
+-- what a test says of the part from a place to the end
+of-part : (f : List ℕ → Bool) (s : List ℕ) (a n : ℕ) {r b : Bool} → length s ≡ n → r ≡ f (take (n - a) (drop a s)) → r ≡ b → f (drop a s) ≡ b
+of-part f s a n k e t = sym (ap f (to-end s a n k)) ∙ sym e ∙ t
+
+-- ---- every entry is 0
+
+pub zeros-stop : (s : List ℕ) (i : ℕ) → i < length s → (getD s i 0 ≡ 0 → ⊥) → zeros (drop i s) ≡ zeros s → false ≡ zeros s
+zeros-stop s i h n e =
+    let z : zeros (drop i s) ≡ false = rw (at-next zeros s i h, ne-eqb (getD s i 0) 0 n) in
+    sym z ∙ e
+
+pub zeros-go : (s : List ℕ) (i : ℕ) → i < length s → getD s i 0 ≡ 0 → zeros (drop i s) ≡ zeros s → zeros (drop (i + 1) s) ≡ zeros s
+zeros-go s i h n e =
+    let z : zeros (drop (i + 1) s) ≡ zeros (drop i s) = rw (at-next zeros s i h, eq-eqb (getD s i 0) 0 n) in
+    z ∙ e
+
+pub zeros-end : (s : List ℕ) (i : ℕ) → length s ≤ i → zeros (drop i s) ≡ zeros s → true ≡ zeros s
+zeros-end s i h e = sym (at-end zeros s i h) ∙ e
+
+-- the places from n on, as a slice to the end
+pub zeros-part : (s : List ℕ) (a n : ℕ) {r : Bool} → length s ≡ n → r ≡ zeros (take (n - a) (drop a s)) → r ≡ zeros (drop a s)
+zeros-part s a n k e = e ∙ ap zeros (to-end s a n k)
+
+pub zeros-past : (s : List ℕ) (a n : ℕ) → length s ≡ n → n < a → true ≡ zeros (drop a s)
+zeros-past s a n e h = sym (at-end zeros s a (omega arith))
+
+-- ---- an entry is there
+
+pub member-stop : (s : List ℕ) (y i : ℕ) → i < length s → getD s i 0 ≡ y → member y (drop i s) ≡ member y s → true ≡ member y s
+member-stop s y i h n e =
+    let z : member y (drop i s) ≡ true = rw (at-next (member y) s i h, eq-eqb (getD s i 0) y n) in
+    sym z ∙ e
+
+pub member-go : (s : List ℕ) (y i : ℕ) → i < length s → (getD s i 0 ≡ y → ⊥) → member y (drop i s) ≡ member y s → member y (drop (i + 1) s) ≡ member y s
+member-go s y i h n e =
+    let z : member y (drop (i + 1) s) ≡ member y (drop i s) = rw (at-next (member y) s i h, ne-eqb (getD s i 0) y n) in
+    z ∙ e
+
+pub member-end : (s : List ℕ) (y i : ℕ) → length s ≤ i → member y (drop i s) ≡ member y s → false ≡ member y s
+member-end s y i h e = sym (at-end (member y) s i h) ∙ e
+
+-- ---- no entry stands twice; r says whether an entry stands in the part after it
+
+module _ (s : List ℕ) (i : ℕ) (h : i < length s) {r : Bool} (m : r ≡ member (getD s i 0) (take (length s - (i + 1)) (drop (i + 1) s))) where
+  pub differ-stop : r ≡ true → differ (drop i s) ≡ differ s → false ≡ differ s
+  differ-stop t e =
+      let q = of-part (member (getD s i 0)) s (i + 1) (length s) refl m t in
+      let z : differ (drop i s) ≡ false = rw (at-next differ s i h, q) in
+      sym z ∙ e
+
+  pub differ-go : r ≡ false → differ (drop i s) ≡ differ s → differ (drop (i + 1) s) ≡ differ s
+  differ-go t e =
+      let q = of-part (member (getD s i 0)) s (i + 1) (length s) refl m t in
+      let z : differ (drop (i + 1) s) ≡ differ (drop i s) = rw (at-next differ s i h, q) in
+      z ∙ e
+
+pub differ-end : (s : List ℕ) (i : ℕ) → length s ≤ i → differ (drop i s) ≡ differ s → true ≡ differ s
+differ-end s i h e = sym (at-end differ s i h) ∙ e

@@ -1,0 +1,24 @@
+-- `state::events::transfer` meets its contract. Closed by laws of EventLaws, one for each way out.
+use Rattle.state.proofs.EventLaws.{terms-short, terms-high, transfer-right}
+use borrow.Author.Needs.{needs}
+use Rattle.state.proofs.events.transfer.Statement.{statement}
+use Rattle.state.proofs.events.transfer.Tie as tie
+
+returns : tie.Need-returns
+returns c = search terms-short
+
+shared-slice-read-if2 : tie.Need-shared-slice-read-if2
+shared-slice-read-if2 c = search needs
+
+returns-2 : tie.Need-returns-2
+returns-2 c = search (terms-high, needs)
+
+terms-in-requires : tie.Need-terms-in-requires
+terms-in-requires c κs = search needs
+
+returns-3 : tie.Need-returns-3
+returns-3 c = search (transfer-right, needs)
+
+pub transfer-spec : {M : Type 1} → statement M
+transfer-spec =
+    tie.close (tie.spec returns shared-slice-read-if2 returns-2 terms-in-requires returns-3)

@@ -1,0 +1,23 @@
+use Rattle.unit.proofs.StartLaws.{unanswered}
+use native.Mathlib.Omega.{arith}
+use borrow.Author.Needs.{needs}
+use Rattle.unit.proofs.starts.on_unanswered.Statement.{statement}
+use Rattle.unit.proofs.starts.on_unanswered.Tie as tie
+
+put-answers-requires : tie.Need-put-answers-requires
+put-answers-requires c κs = search needs
+
+to-idle-requires : tie.Need-to-idle-requires
+to-idle-requires c κs = search needs
+
+finished-requires : tie.Need-finished-requires
+finished-requires c κs = search needs
+
+same-length : tie.Need-same-length
+same-length c = search needs
+
+returns : tie.Need-returns
+returns c = unanswered (c .before .before .before .before .before .before .before .before .before .pre .0) (c .before .before .before .before .before .before .before .before .before .pre .1 .0) (c .before .before .before .before .before .before .before .before .before .pre .1 .1 .0) (c .before .before .before .before .put-answers .ensures .0) (c .before .to-idle .ensures) (c .finished .ensures)
+
+pub on-unanswered-spec : {M : Type 1} → statement M
+on-unanswered-spec = tie.close (tie.spec put-answers-requires to-idle-requires finished-requires same-length returns)
