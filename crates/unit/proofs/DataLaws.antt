@@ -201,8 +201,10 @@ result-is (suc (suc (suc (suc n)))) h = rw (ne-eqb (suc (suc (suc (suc n)))) 2 (
 module _ {u : Value} (k : Ready u) {f : List ℕ} {h : Header} {n : ℕ} (w : Reads f h n) where
   abbrev S : Setup
   S = setupOf u
+
   abbrev T : State
   T = stateOf u
+
   abbrev M : Message
   M = messageAt f h
 

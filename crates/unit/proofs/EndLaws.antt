@@ -104,6 +104,7 @@ module _ (s : Setup) (u : Value) where
 module _ {u : Value} (k : Ready u) where
   abbrev S : Setup
   S = setupOf u
+
   abbrev T : State
   T = stateOf u
 

@@ -6,3 +6,5 @@ pub mod DataLaws
 pub mod RequestLaws
 pub mod StartLaws
 pub mod EntryLaws
+pub mod OneResult
+pub mod Refusals

@@ -56,8 +56,13 @@ closed-padded w i h l =
     let b = length-append (take i w) (drop (suc i) w) in
     let c = length-drop (suc i) w in
     let d : 8 - length (take i w ++ drop (suc i) w) ≡ (8 - length w) + 1 = omega arith in
-    rw (lt-ltb i 8 (omega arith), take-append-le i w (replicate (8 - length w) 0) (omega arith), drop-append-le (suc i) w (replicate (8 - length w) 0) (omega arith), d,
-    ← replicate-append-replicate {A = ℕ} (8 - length w) 1 0) (simp append-assoc)
+    rw (
+      lt-ltb i 8 (omega arith),
+      take-append-le i w (replicate (8 - length w) 0) (omega arith),
+      drop-append-le (suc i) w (replicate (8 - length w) 0) (omega arith),
+      d,
+      ← replicate-append-replicate {A = ℕ} (8 - length w) 1 0,
+    ) (simp append-assoc)
 
 fewer-length : (w : List ℕ) (i : ℕ) → i < length w → length w - 1 ≡ length (take i w ++ drop (suc i) w)
 fewer-length w i h = omega (arith, length-take-le i w (omega arith), length-append (take i w) (drop (suc i) w), length-drop (suc i) w)

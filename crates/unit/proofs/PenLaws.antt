@@ -10,7 +10,7 @@ use native.Mathlib.Numerals.{add-one}
 use lib.ListN.{length, take, drop, getD, length-append}
 use lib.Seq.{sets, take-suc, length-take-le}
 use Rattle.octets.specs.Put.{Put}
-use Rattle.octets.proofs.Puts.{then, put-as} 
+use Rattle.octets.proofs.Puts.{then, put-as}
 use Rattle.octets.proofs.Puts as Puts
 use Rattle.frame.specs.Message.{present}
 use Rattle.frame.specs.Encoding.{weight, typeOctets, firstOctet, encode, frameOf}

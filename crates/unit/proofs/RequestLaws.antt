@@ -244,8 +244,10 @@ waits-found x k (y ∷ w) = ap (λ b. eqb x y || b) (waits-found x (suc k) w) �
 module _ {u : Value} (k : Ready u) {f : List ℕ} {h : Header} (w : Reads f h 0) where
   abbrev S : Setup
   S = setupOf u
+
   abbrev T : State
   T = stateOf u
+
   abbrev M : Msg
   M = msgAt f h
 

@@ -106,6 +106,7 @@ module _ (s : Setup) (a : Terms) (f : List ℕ) (h : Header) (n : ℕ) where
 module _ {u : Value} (k : Ready u) where
   abbrev S : Setup
   S = setupOf u
+
   abbrev T : State
   T = stateOf u
 
@@ -273,6 +274,7 @@ module _ (s : Setup) (u : Value) where
 module _ {u : Value} (k : Ready u) where
   abbrev S₂ : Setup
   S₂ = setupOf u
+
   abbrev T₂ : State
   T₂ = stateOf u
 

@@ -45,7 +45,14 @@ pub(crate) fn put_seen(out: &mut [u8], n: usize) -> Pen
 }
 
 // Line 20 or 21.
-pub(crate) fn put_given(out: &mut [u8], pen: Pen, kind: u8, t: Terms, frame: &[u8], end: usize) -> Pen
+pub(crate) fn put_given(
+    out: &mut [u8],
+    pen: Pen,
+    kind: u8,
+    t: Terms,
+    frame: &[u8],
+    end: usize,
+) -> Pen
     requires { ⌜ (1 ≤ end) × ((end ≤ length (now frame)) × ((end ≤ 554) × ((pen .lines ≤ 100) × (pen .at + 6 + end ≤ length (now out))))) ⌝ }
     ensures { λ r. ⌜ (Laid (now (out .entry)) pen ((kind ∷ (termsOctets t ++ bareTo (now (frame .entry)) end)) ∷ []) (now (out .exit)) r) × (r .at ≡ pen .at + 6 + end) ⌝ }
 {

@@ -183,7 +183,15 @@ fn on_turned_down(u: Unit, out: &mut [u8]) -> Turn
     };
     let ids = u.waiting;
     let name = u.name;
-    let pen = lines::put_answers(out, Pen { at: 0, lines: 0 }, say, ids, u.count, name, u.letters);
+    let pen = lines::put_answers(
+        out,
+        Pen { at: 0, lines: 0 },
+        say,
+        ids,
+        u.count,
+        name,
+        u.letters,
+    );
     let line = [0x24, 3];
     let done = lines::put_line(out, pen, &line);
     let v = moves::to_idle(u);

@@ -1,6 +1,6 @@
+-- `unit::act` meets its contract. Closed by laws of Gave and EntryLaws, one for each way out.
 use Rattle.unit.proofs.Gave.{refuses}
 use Rattle.unit.proofs.EntryLaws.{acts-yes, acts-no}
-use native.Mathlib.Omega.{arith}
 use borrow.Author.Needs.{needs}
 use Rattle.unit.proofs.act.Statement.{statement}
 use Rattle.unit.proofs.act.Tie as tie

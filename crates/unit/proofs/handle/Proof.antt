@@ -1,3 +1,4 @@
+-- `unit::handle` meets its contract. Closed by laws of Sounds and Gave and EntryLaws, one for each way out.
 use Prim.Native.Nat.{ℕ, _<_}
 use lib.ListN.{getD}
 use mir.Syntax.{w8}
@@ -6,7 +7,6 @@ use mathlib.Core.Path.{sym, _∙_}
 use Rattle.state.proofs.Sounds.{ready}
 use Rattle.unit.proofs.Gave.{refuses, turned-as}
 use Rattle.unit.proofs.EntryLaws.{step-small, step-unsound, step-does}
-use native.Mathlib.Omega.{arith}
 use borrow.Author.Needs.{needs}
 use Rattle.unit.proofs.handle.Statement.{statement}
 use Rattle.unit.proofs.handle.Tie as tie

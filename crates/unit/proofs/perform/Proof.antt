@@ -1,11 +1,10 @@
-use mathlib.Core.Path.{refl, sym, ap}
+-- `unit::perform` meets its contract. Closed by laws of Gave and EntryLaws, one for each way out.
+use mathlib.Core.Path.{refl}
 use denote.Ref.{now}
-use Rattle.book.specs.Book.{on-request, on-start, on-reply, on-dat}
-use Rattle.book.specs.View.{readingIn}
-use Rattle.book.specs.Step.{does, orNothing}
-use Rattle.unit.proofs.Gave.{refuses, turned-as}
+use Rattle.book.specs.Book.{on-request, on-start, on-reply}
+use Rattle.book.specs.Step.{does}
+use Rattle.unit.proofs.Gave.{refuses}
 use Rattle.unit.proofs.EntryLaws.{does-as, does-transfer, does-start, does-reply, does-data, does-malformed, takes-as, takes-dropped}
-use native.Mathlib.Omega.{arith}
 use borrow.Author.Needs.{needs}
 use Rattle.unit.proofs.perform.Statement.{statement}
 use Rattle.unit.proofs.perform.Tie as tie

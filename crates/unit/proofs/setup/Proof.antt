@@ -1,7 +1,7 @@
+-- `unit::setup` meets its contract. Closed by laws of EntryLaws, one for each way out.
 use mathlib.Core.Path.{sym, _∙_}
 use denote.Ref.{now}
 use Rattle.unit.proofs.EntryLaws.{set-up, not-set, within-name}
-use native.Mathlib.Omega.{arith}
 use borrow.Author.Needs.{needs}
 use Rattle.unit.proofs.setup.Statement.{statement}
 use Rattle.unit.proofs.setup.Tie as tie

@@ -1,6 +1,6 @@
+-- `unit::data::ack_of` meets its contract. Closed by laws of DataLaws, one for each way out.
 use denote.Ref.{now}
 use Rattle.unit.proofs.DataLaws.{ack-made}
-use native.Mathlib.Omega.{arith}
 use borrow.Author.Needs.{needs}
 use Rattle.unit.proofs.data.ack_of.Statement.{statement}
 use Rattle.unit.proofs.data.ack_of.Tie as tie

@@ -1,3 +1,4 @@
+-- `unit::data::on_data` meets its contract. Closed by laws of Views and DataLaws, one for each way out.
 use denote.Ref.{now}
 use Rattle.book.proofs.Views.{reads-made}
 use Rattle.unit.proofs.DataLaws.{heard-bad, heard-good}

@@ -1,3 +1,4 @@
+-- `unit::data::on_message` meets its contract. Closed by `search needs`.
 use native.Mathlib.Omega.{arith}
 use borrow.Author.Needs.{needs}
 use Rattle.unit.proofs.data.on_message.Statement.{statement}

@@ -1,3 +1,4 @@
+-- `unit::data::on_note` meets its contract. Closed by laws of DataLaws, one for each way out.
 use Rattle.unit.proofs.DataLaws.{heard-note-none, heard-note-some, note-remove}
 use native.Mathlib.Omega.{arith}
 use borrow.Author.Needs.{needs}

@@ -1,3 +1,4 @@
+-- `unit::data::on_sure` meets its contract. Closed by laws of DataLaws, one for each way out.
 use Rattle.unit.proofs.DataLaws.{heard-sure-assoc, heard-sure-ending}
 use native.Mathlib.Omega.{arith}
 use borrow.Author.Needs.{needs}

@@ -1,9 +1,9 @@
+-- `unit::data::put_confirmed` meets its contract. Closed by laws of PenLaws, one for each way out.
 use mathlib.Core.Path.{ap}
 use mathlib.Core.List.{[], _∷_}
 use denote.Ref.{now}
 use Rattle.frame.specs.Stripping.{bareTo}
 use Rattle.unit.proofs.PenLaws.{laid-as}
-use native.Mathlib.Omega.{arith}
 use borrow.Author.Needs.{needs}
 use Rattle.unit.proofs.data.put_confirmed.Statement.{statement}
 use Rattle.unit.proofs.data.put_confirmed.Tie as tie

@@ -1,3 +1,4 @@
+-- `unit::ends::fall` meets its contract. Closed by laws of EndLaws, one for each way out.
 use Rattle.unit.proofs.EndLaws.{fell}
 use native.Mathlib.Omega.{arith}
 use borrow.Author.Needs.{needs}

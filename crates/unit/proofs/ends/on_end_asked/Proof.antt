@@ -1,3 +1,4 @@
+-- `unit::ends::on_end_asked` meets its contract. Closed by laws of EndLaws, one for each way out.
 use Rattle.unit.proofs.EndLaws.{was-ended}
 use native.Mathlib.Omega.{arith}
 use borrow.Author.Needs.{needs}

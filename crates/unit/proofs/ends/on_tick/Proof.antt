@@ -1,3 +1,4 @@
+-- `unit::ends::on_tick` meets its contract. Closed by laws of EndLaws, one for each way out.
 use Rattle.unit.proofs.EndLaws.{ticked-idle, ticked-early, ticked-end, ticked-fall}
 use native.Mathlib.Omega.{arith}
 use borrow.Author.Needs.{needs}

@@ -1,3 +1,4 @@
+-- `unit::ends::put_lost` meets its contract. Closed by laws of EndLaws, one for each way out.
 use Rattle.unit.proofs.EndLaws.{lost-put}
 use native.Mathlib.Omega.{arith}
 use borrow.Author.Needs.{needs}

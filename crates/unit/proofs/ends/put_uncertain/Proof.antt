@@ -1,3 +1,4 @@
+-- `unit::ends::put_uncertain` meets its contract. Closed by laws of Gave, one for each way out.
 use Rattle.unit.proofs.Gave.{doubts-put}
 use native.Mathlib.Omega.{arith}
 use borrow.Author.Needs.{needs}

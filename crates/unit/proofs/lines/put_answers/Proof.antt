@@ -1,3 +1,4 @@
+-- `unit::lines::put_answers` meets its contract. The invariant: the answers so far are laid, in their order, and the bounds hold.
 use Prim.Native.Nat.{_≤_, _-_, _+_, _*_}
 use mathlib.Core.Path.{_≡_, refl}
 use mathlib.Core.List.{map}
@@ -38,8 +39,7 @@ loop-again : tie.Need-loop-again Inv-loop μ-loop
 loop-again c =
     let l = c .before .before .before .before .before .loop in
     let a = c .before .before .before .before .before .before .before .args in
-    let p = c .before .before .put-answer in
-    (
+    let p = c .before .before .put-answer in (
       search needs,
       omega (arith, p .ensures .1, l .inv .1),
       omega (arith, p .ensures .0 .count, l .inv .2),

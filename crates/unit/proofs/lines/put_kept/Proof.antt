@@ -1,3 +1,4 @@
+-- `unit::lines::put_kept` meets its contract. Closed by laws of PenLaws, one for each way out.
 use mathlib.Core.Path.{sym}
 use mathlib.Core.List.{[], _∷_}
 use lib.ListN.{take}
@@ -7,40 +8,28 @@ use native.Mathlib.Omega.{arith}
 use borrow.Author.Needs.{needs}
 use Rattle.unit.proofs.lines.put_kept.Statement.{statement}
 use Rattle.unit.proofs.lines.put_kept.Tie as tie
-use Rattle.unit.proofs.lines.put_kept.Reads as reads
-use Rattle.unit.proofs.lines.put_kept.Lts as lts
-use Rattle.unit.proofs.lines.put.Reads as put-reads
-use Rattle.unit.proofs.lines.put_head.Reads as put-head-reads
 
--- src/lines.rt:79:38
 slice-aggregate-put-head : tie.Need-slice-aggregate-put-head
 slice-aggregate-put-head c = search needs
 
--- src/lines.rt:79:9
 put-head-requires : tie.Need-put-head-requires
 put-head-requires c κs = search needs
 
--- src/lines.rt:80:31
 array-share-prefix-kept : tie.Need-array-share-prefix-kept
 array-share-prefix-kept c = search needs
 
--- src/lines.rt:80:31
 slice-aggregate-put : tie.Need-slice-aggregate-put
 slice-aggregate-put c = let a = c .before .before .before .before .before .before .before .before .args in sym (length-take-le (a .n) (a .t3) (omega arith))
 
--- src/lines.rt:80:9
 put-requires : tie.Need-put-requires
 put-requires c κs = let a = c .before .before .before .before .before .before .before .before .args in let p = c .before .before .before .before .put-head in omega (arith, length-take-le (a .n) (a .t3) (omega arith), p .ensures .place, p .kept .0)
 
--- src/lines.rt:83:16
 add-t17 : tie.Need-add-t17
 add-t17 c = search needs
 
--- src/lines.rt:74:1
 same-length : tie.Need-same-length
 same-length c = search needs
 
--- src/lines.rt:74:1
 returns : tie.Need-returns
 returns c = let a = c .before .before .before .before .before .before .before .before .before .before .before .before .args in line-made (50 ∷ []) (take (a .n) (a .t3)) (a .n) 0 (a .pen) (length-take-le (a .n) (a .t3) (omega arith)) (c .before .before .before .before .before .before .before .before .put-head .ensures) (c .before .before .before .put .ensures)
 

@@ -1,3 +1,4 @@
+-- `unit::lines::put_note` meets its contract. Closed by laws of PenLaws, one for each way out.
 use mathlib.Core.Path.{sym}
 use lib.ListN.{take}
 use lib.Seq.{length-take-le}
@@ -6,96 +7,70 @@ use native.Mathlib.Omega.{arith}
 use borrow.Author.Needs.{needs}
 use Rattle.unit.proofs.lines.put_note.Statement.{statement}
 use Rattle.unit.proofs.lines.put_note.Tie as tie
-use Rattle.unit.proofs.lines.put_note.Reads as reads
-use Rattle.unit.proofs.lines.put_note.Lts as lts
-use Rattle.unit.proofs.lines.bit_of.Reads as bit-of-reads
-use Rattle.unit.proofs.lines.put.Reads as put-reads
 
--- src/lines.rt:109:9
 bit-of-requires : tie.Need-bit-of-requires
 bit-of-requires c κs = search needs
 
--- src/lines.rt:111:16
 cast-high : tie.Need-cast-high
 cast-high c = search needs
 
--- src/lines.rt:112:15
 cast-low : tie.Need-cast-low
 cast-low c = search needs
 
--- src/lines.rt:113:13
 cast-n : tie.Need-cast-n
 cast-n c = search needs
 
--- src/lines.rt:115:25
 enum-known-message-type : tie.Need-enum-known-message-type
 enum-known-message-type c = search needs
 
--- src/lines.rt:116:21
 enum-told : tie.Need-enum-told
 enum-told c = search needs
 
--- src/lines.rt:116:21
 add-t20 : tie.Need-add-t20
 add-t20 c = search needs
 
--- src/lines.rt:117:33
 slice-aggregate-put : tie.Need-slice-aggregate-put
 slice-aggregate-put c = search needs
 
--- src/lines.rt:117:13
 put-requires : tie.Need-put-requires
 put-requires c κs = search needs
 
--- src/lines.rt:118:31
 array-share-prefix-name : tie.Need-array-share-prefix-name
 array-share-prefix-name c = search needs
 
--- src/lines.rt:118:31
 slice-aggregate-put-2 : tie.Need-slice-aggregate-put-2
 slice-aggregate-put-2 c = let a = c .before .before .before .before .before .before .before .before .before .before .before .args in sym (length-take-le (a .letters) (a .t4) (omega arith))
 
--- src/lines.rt:118:9
 put-requires-2 : tie.Need-put-requires-2
 put-requires-2 c κs = let a = c .before .before .before .before .before .before .before .before .before .before .before .args in let p = c .before .before .before .before .put in omega (arith, length-take-le (a .letters) (a .t4) (omega arith), p .ensures .place, p .kept .0)
 
--- src/lines.rt:118:9
 same-length : tie.Need-same-length
 same-length c = search needs
 
--- src/lines.rt:118:9
 returns : tie.Need-returns
 returns c = let a = c .before .before .before .before .before .before .before .before .before .before .before .before .before .before .args in note-plain (a .note) (take (a .letters) (a .t4)) (a .letters) _ (search needs) (search needs) (length-take-le (a .letters) (a .t4) (omega arith)) (search needs) (c .before .before .before .before .before .before .before .before .before .before .before .before .bit-of .ensures .0) (c .before .before .before .before .before .before .before .before .before .before .enum-told .given .1) (omega arith) (c .before .before .before .before .before .before .before .put .ensures) (c .before .before .put2 .ensures)
 
--- src/lines.rt:120:17
 add-t29 : tie.Need-add-t29
 add-t29 c = search needs
 
--- src/lines.rt:121:29
 slice-aggregate-put-3 : tie.Need-slice-aggregate-put-3
 slice-aggregate-put-3 c = search needs
 
--- src/lines.rt:121:9
 put-requires-3 : tie.Need-put-requires-3
 put-requires-3 c κs = search needs
 
--- src/lines.rt:122:20
 array-share-prefix-name-2 : tie.Need-array-share-prefix-name-2
 array-share-prefix-name-2 c = search needs
 
--- src/lines.rt:122:20
 slice-aggregate-put-4 : tie.Need-slice-aggregate-put-4
 slice-aggregate-put-4 c = let a = c .before .before .before .before .before .before .before .before .before .before .before .before .args in sym (length-take-le (a .letters) (a .t4) (omega arith))
 
--- src/lines.rt:122:5
 put-requires-4 : tie.Need-put-requires-4
 put-requires-4 c κs = let a = c .before .before .before .before .before .before .before .before .before .before .before .before .args in let p = c .before .before .before .before .put3 in omega (arith, length-take-le (a .letters) (a .t4) (omega arith), p .ensures .place, p .kept .0)
 
--- src/lines.rt:105:1
 same-length-2 : tie.Need-same-length-2
 same-length-2 c = search needs
 
--- src/lines.rt:105:1
 returns-2 : tie.Need-returns-2
 returns-2 c = let a = c .before .before .before .before .before .before .before .before .before .before .before .before .before .before .before .args in note-typed (a .note) (take (a .letters) (a .t4)) (a .letters) _ (search needs) (search needs) (length-take-le (a .letters) (a .t4) (omega arith)) (search needs) (c .before .before .before .before .before .before .before .before .before .before .before .before .before .bit-of .ensures .0) _ (c .before .before .before .before .before .before .before .before .before .before .before .message-type .given .1) (omega arith) (c .before .before .before .before .before .before .before .put3 .ensures) (c .before .before .put4 .ensures)
 

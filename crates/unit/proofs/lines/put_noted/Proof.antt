@@ -1,3 +1,4 @@
+-- `unit::lines::put_noted` meets its contract. Closed by laws of PenLaws, one for each way out.
 use mathlib.Core.Path.{sym, ap, _∙_}
 use Prim.Native.Nat.{_+_}
 use denote.Ref.{now}
@@ -29,10 +30,9 @@ same-length c = search needs
 returns : tie.Need-returns
 returns c =
     let a = c .before .before .before .before .before .before .before .before .before .before .before .before .args in
-    let l = length-take-le (a .letters) (a .name) (omega arith) in
-    (
+    let l = length-take-le (a .letters) (a .name) (omega arith) in (
       line-note (now (a .head)) (a .note) (take (a .letters) (a .name)) _ (a .pen) (search needs) (search needs)
-      (c .before .before .before .before .before .before .before .before .before .note-size .ensures .0 ∙ ap (λ k. 5 + length (typeOctets (octetIn (a .note .«message_type»))) + k) (sym l)) (c .before .before .before .before .before .before .before .put-head .ensures) (c .before .before .before .put-note .ensures),
+          (c .before .before .before .before .before .before .before .before .before .note-size .ensures .0 ∙ ap (λ k. 5 + length (typeOctets (octetIn (a .note .«message_type»))) + k) (sym l)) (c .before .before .before .before .before .before .before .put-head .ensures) (c .before .before .before .put-note .ensures),
       omega (arith, l, c .before .before .before .before .before .before .before .put-head .ensures .place, c .before .before .before .put-note .ensures .place, c .before .before .before .before .before .before .before .before .before .note-size .ensures .0, c .before .before .before .before .before .before .before .before .before .note-size .ensures .1, note-length (a .note) (take (a .letters) (a .name)) (search needs) (search needs)),
     )
 

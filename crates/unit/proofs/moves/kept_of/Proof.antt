@@ -1,3 +1,4 @@
+-- `unit::moves::kept_of` meets its contract. The invariant: the octets still to be stored give, stored now, what the whole gives (Moved: `own-step`, `own-end`).
 use Prim.Native.Nat.{_≤_, _-_}
 use mathlib.Core.Path.{_≡_, _∙_}
 use lib.ListN.{length, drop, replicate, length-set}

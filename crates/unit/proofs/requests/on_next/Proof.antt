@@ -1,3 +1,4 @@
+-- `unit::requests::on_next` meets its contract. Closed by laws of Gave and RequestLaws, one for each way out.
 use Rattle.unit.proofs.Gave.{refuses}
 use Rattle.unit.proofs.RequestLaws.{ask-3, same-made}
 use native.Mathlib.Omega.{arith}

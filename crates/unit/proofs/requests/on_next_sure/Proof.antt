@@ -1,3 +1,4 @@
+-- `unit::requests::on_next_sure` meets its contract. Closed by laws of Gave and RequestLaws, one for each way out.
 use mathlib.Core.Path.{ap}
 use Rattle.unit.specs.Moves.{advanced}
 use Rattle.unit.proofs.Gave.{refuses}

@@ -1,3 +1,4 @@
+-- `unit::requests::on_request` meets its contract. Closed by laws of Gave and RequestLaws, one for each way out.
 use denote.Ref.{now}
 use Rattle.unit.proofs.Gave.{refuses}
 use Rattle.unit.proofs.RequestLaws.{ask-faulty, ask-extended, ask-other, ask-vetted, reads-zero}

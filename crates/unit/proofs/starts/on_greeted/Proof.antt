@@ -1,3 +1,4 @@
+-- `unit::starts::on_greeted` meets its contract. Closed by laws of Gave and StartLaws, one for each way out.
 use denote.Ref.{now}
 use Rattle.unit.proofs.Gave.{turned-as}
 use Rattle.unit.proofs.StartLaws.{greeted-note, greeted-multi}

@@ -1,3 +1,4 @@
+-- `unit::starts::on_single_answer` meets its contract. Closed by laws of Views and StartLaws, one for each way out.
 use denote.Ref.{now}
 use Rattle.book.proofs.Views.{reads-made}
 use Rattle.unit.proofs.StartLaws.{nobody-waits, answer-nothing, answer-faulty, answer-whole}

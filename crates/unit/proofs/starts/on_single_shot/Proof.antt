@@ -1,3 +1,4 @@
+-- `unit::starts::on_single_shot` meets its contract. Closed by laws of StartLaws, one for each way out.
 use Rattle.unit.proofs.StartLaws.{shot-plain, shot-sure}
 use native.Mathlib.Omega.{arith}
 use borrow.Author.Needs.{needs}

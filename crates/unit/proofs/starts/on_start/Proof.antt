@@ -1,3 +1,4 @@
+-- `unit::starts::on_start` meets its contract. Closed by laws of Views and StartLaws, one for each way out.
 use denote.Ref.{now}
 use Rattle.book.proofs.Views.{reads-made}
 use Rattle.unit.proofs.StartLaws.{start-idle, start-none, start-bad, start-good}
