@@ -1,0 +1,1 @@
+// No code: the laws of proofs/ say that a turn keeps a sound unit sound.
