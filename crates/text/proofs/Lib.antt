@@ -1,3 +1,5 @@
 pub mod LineLaws
 pub mod FeedLaws
+pub mod PrintLaws
+pub mod RoundTrip
 pub mod OneResult

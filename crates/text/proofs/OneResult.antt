@@ -4,6 +4,7 @@ use denote.Ref.{now}
 use Rattle.octets.specs.Contract.{Leaves}
 use Rattle.text.proofs.line_feed.Reads as line-feed
 use Rattle.text.proofs.line_in.Reads as line-in
+use Rattle.text.proofs.print.Reads as print
 
 pub one-line-feed : Leaves line-feed.Post (λ κs r e. r)
 one-line-feed κs a x y e f p q = p ∙ sym q
@@ -13,3 +14,9 @@ one-line-in κs a x y e f p q = p .0 ∙ sym (q .0)
 
 pub one-line-in-buffer : Leaves line-in.Post (λ κs r e. now (e .1 .0))
 one-line-in-buffer κs a x y e f p q = p .1 ∙ sym (q .1)
+
+pub one-print : Leaves print.Post (λ κs r e. r)
+one-print κs a x y e f p q = p .0 ∙ sym (q .0)
+
+pub one-print-buffer : Leaves print.Post (λ κs r e. now (e .0))
+one-print-buffer κs a x y e f p q = p .1 ∙ sym (q .1)

@@ -1,10 +1,11 @@
-// Lines of digits: where a line of the listing's input ends, and the octets that it stands for. Rules: 01, "Events, lines and the listing".
+// Lines of digits: where a line of the listing's input ends, the octets that it stands for, and octets printed as a line. Rules: 01, "Events, lines and the listing".
 ghost use mathlib.Core.Path.{_≡_};
-ghost use Prim.Native.Nat.{_≤_, _*_, _+_};
+ghost use Prim.Native.Nat.{_≤_, _<_, _*_, _+_, _/_, _%_};
 ghost use lib.ListN.{length};
 ghost use lib.Seq.{sets};
 ghost use Rattle.text.specs.Digits.{valueOf};
 ghost use Rattle.text.specs.Reading.{least, leading, feedFrom, lineIn};
+ghost use Rattle.text.specs.Printing.{digitOf, digitsOf, fits, printedIn};
 
 // The next line of the input.
 pub enum Line {
@@ -102,4 +103,65 @@ pub fn line_in(s: &[u8], event: &mut [u8; 2048]) -> Line
         return Line::Octets(n, end + 1);
     }
     Line::Refused(end + 1)
+}
+
+// The digit of a value.
+fn digit_of(v: u8) -> u8
+    requires { ⌜ v < 16 ⌝ }
+    ensures { λ r. ⌜ r ≡ digitOf v ⌝ }
+{
+    if v < 10 {
+        return 48 + v;
+    }
+    87 + v
+}
+
+fn high_digit(x: u8) -> u8
+    ensures { λ r. ⌜ r ≡ digitOf (x / 16) ⌝ }
+{
+    digit_of(x / 16)
+}
+
+fn low_digit(x: u8) -> u8
+    ensures { λ r. ⌜ r ≡ digitOf (x % 16) ⌝ }
+{
+    digit_of(x % 16)
+}
+
+// Whether the digits of n octets and a line feed have room from a place on.
+fn fits(room: usize, at: usize, n: usize) -> bool
+    ensures { λ r. ⌜ r ≡ fits room at n ⌝ }
+{
+    if room <= at {
+        return false;
+    }
+    n <= half(room - at - 1)
+}
+
+// The digits of octets, from a place on.
+fn put_digits(out: &mut [u8], at: usize, line: &[u8]) -> usize
+    requires { ⌜ at + 2 * length (now line) < length (now out) ⌝ }
+    ensures { λ r. ⌜ (r ≡ at + 2 * length (now (line .entry))) × (now (out .exit) ≡ sets (now (out .entry)) at (digitsOf (now (line .entry)))) ⌝ }
+{
+    let mut i = 0;
+    while i < line.len() {
+        let high = high_digit(line[i]);
+        let low = low_digit(line[i]);
+        out[at + 2 * i] = high;
+        out[at + 2 * i + 1] = low;
+        i += 1;
+    }
+    at + 2 * i
+}
+
+// Octets as a line of the listing's output, from a place on; nothing where the whole line has no room. The place after it.
+pub fn print(out: &mut [u8], at: usize, line: &[u8]) -> usize
+    ensures { λ r. ⌜ (r ≡ at + length (printedIn (length (now (out .entry))) at (now (line .entry)))) × (now (out .exit) ≡ sets (now (out .entry)) at (printedIn (length (now (out .entry))) at (now (line .entry)))) ⌝ }
+{
+    if fits(out.len(), at, line.len()) {
+        let end = put_digits(out, at, line);
+        out[end] = 10;
+        return end + 1;
+    }
+    at
 }
