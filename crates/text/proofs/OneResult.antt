@@ -13,7 +13,7 @@ pub one-line-in : Leaves line-in.Post (λ κs r e. r)
 one-line-in κs a x y e f p q = p .0 ∙ sym (q .0)
 
 pub one-line-in-buffer : Leaves line-in.Post (λ κs r e. now (e .1 .0))
-one-line-in-buffer κs a x y e f p q = p .1 ∙ sym (q .1)
+one-line-in-buffer κs a x y e f p q = p .1 .0 ∙ sym (q .1 .0)
 
 pub one-print : Leaves print.Post (λ κs r e. r)
 one-print κs a x y e f p q = p .0 ∙ sym (q .0)

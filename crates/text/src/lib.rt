@@ -89,7 +89,7 @@ pub fn line_feed(s: &[u8], from: usize) -> usize
 
 // The line at the front of `s`: one pass over its digits, and on to its line feed only where it is refused.
 pub fn line_in(s: &[u8], event: &mut [u8; 2048]) -> Line
-    ensures { λ r. ⌜ (r ≡ lineIn (now (s .entry))) × (now (event .exit) ≡ sets (now (event .entry)) 0 (leading (now (s .entry)))) ⌝ }
+    ensures { λ r. ⌜ (r ≡ lineIn (now (s .entry))) × ((now (event .exit) ≡ sets (now (event .entry)) 0 (leading (now (s .entry)))) × (length (now (event .entry)) ≡ 2048)) ⌝ }
 {
     let n = octets_in(s, event);
     let end = line_feed(s, 2 * n);

@@ -1,0 +1,174 @@
+-- Laws of the line at the front of the input, as the code finds it; and of the input's end. Closed by the tests of a line.
+use Prim.Native.Nat.{ℕ, zero, suc, _+_, _-_, _*_, _<_, _≤_}
+use mathlib.Core.Path.{_≡_, refl, ap, sym, _∙_}
+use mathlib.Core.Bool.{Bool, true, false}
+use mathlib.Core.Option.{Option, none, some}
+use mathlib.Core.List.{List, [], _∷_, _++_, append-nil}
+use native.Mathlib.Omega.{arith}
+use borrow.Author.Tests.{le-ltb, lt-ltb, ltb-true, ltb-false, leb-true, eqb-true}
+use lib.Dec.{ltb, leb, eqb}
+use lib.ListN.{length, take, drop}
+use lib.Seq.{sets, sets-eq, take-append-seam}
+use Rattle.octets.specs.Choice.{pick, both, either}
+use Rattle.octets.specs.Put.{Put}
+use Rattle.octets.proofs.Puts as Puts
+use Rattle.text.specs.Reading.{leading, toFeed, feedFrom, eventIn, said, lineIn}
+use Rattle.text.specs.declared.Line.{Line}
+use Rattle.text.specs.declared.Line.the-variants.{Octets, Refused, Open}
+use Rattle.text.proofs.FeedLaws.{leading-cut}
+use Rattle.book.specs.declared.Unit.{Unit as Value}
+use Rattle.session.specs.Listing.{text, answerTo, atEnd, listed}
+use Rattle.session.specs.Feeding.{Taken, heard, passingOver, notEnded, lineTaken, most, finishing}
+use Rattle.session.specs.Walking.{LineRead, Takes, leftAt}
+use Rattle.session.specs.declared.Phase.{Phase}
+use Rattle.session.specs.declared.Phase.the-variants.{First, Running, Stopped}
+use Rattle.session.specs.declared.Session.{Session}
+use Rattle.session.specs.declared.Fed.{Fed}
+
+-- ---- a line without its line feed
+
+pub left-over : (s : Session) (i : List ℕ) (at : ℕ) → either (s .passing) (ltb 4096 (length i)) ≡ true
+    → record { session = record { unit = s .unit; phase = s .phase; passing = true }; taken = length i; written = at } ≡ leftAt (notEnded s i) at
+left-over s i at e = rw e
+
+pub left-later : (s : Session) (i : List ℕ) (at : ℕ) → either (s .passing) (ltb 4096 (length i)) ≡ false
+    → record { session = s; taken = 0; written = at } ≡ leftAt (notEnded s i) at
+left-later s i at e = rw e
+
+quiet : (s : Session) (i : List ℕ) → notEnded s i .lines ≡ []
+quiet s i = go (either (s .passing) (ltb 4096 (length i)))
+  where
+    go : (x : Bool) → pick {A = Taken} x (record { session = passingOver s; taken = length i; lines = [] }) (record { session = s; taken = 0; lines = [] }) .lines ≡ []
+    go true = refl
+    go false = refl
+
+-- it prints nothing
+pub left-takes : (s : Session) (i out : List ℕ) (at : ℕ) (r : Fed) → lineTaken s i ≡ notEnded s i → r ≡ leftAt (notEnded s i) at → Takes (lineTaken s i) out at out r
+unfolding text
+left-takes s i out at r e f =
+    rw (e, f) (record { session = refl; taken = refl; put = Puts.put-as (ap text (sym (quiet s i))) (Puts.none out at); small = omega arith })
+
+-- ---- a line that is passed over
+
+feed-is : (i : List ℕ) (e : ℕ) → e ≡ feedFrom i 0 → e ≡ toFeed i
+unfolding feedFrom
+feed-is i e h = omega arith
+
+pub pass-ended : (s : Session) (i : List ℕ) (e : ℕ) → true ≡ s .passing → e ≡ feedFrom i 0 → e < length i
+    → lineTaken s i ≡ heard (e + 1) (answerTo (s .phase) (s .unit) none)
+unfolding lineTaken
+pass-ended s i e p h k = let f = feed-is i e h in rw (lt-ltb (toFeed i) (length i) (omega arith), ← p, f)
+
+pub pass-open : (s : Session) (i : List ℕ) (e : ℕ) → e ≡ feedFrom i 0 → length i ≤ e → lineTaken s i ≡ notEnded s i
+unfolding lineTaken
+pass-open s i e h k = let f = feed-is i e h in rw (le-ltb (toFeed i) (length i) (omega arith))
+
+-- ---- a line that stands from its front on
+
+-- the octets of a line that is an event
+event-is : (line o : List ℕ) → eventIn line ≡ some o → (o ≡ leading line) × (length o ≤ 2048)
+unfolding eventIn
+event-is line o = go (ltb 0 (length line)) (leb (length line) 4096) refl (eqb (2 * length (leading line)) (length line)) refl
+  where
+    go : (x y : Bool) → y ≡ leb (length line) 4096 → (z : Bool) → z ≡ eqb (2 * length (leading line)) (length line)
+        → pick (both x (both y z)) (some (leading line)) none ≡ some o → (o ≡ leading line) × (length o ≤ 2048)
+    go true true p true q e =
+        let k : leading line ≡ o = cc in
+        let l = ap length k in
+        (sym k, omega (arith, leb-true (length line) 4096 (sym p), eqb-true (2 * length (leading line)) (length line) (sym q)))
+    go false y p z q e = let w : _≡_ {A = ℕ} 0 1 = cc in absurd (omega arith)
+    go true false p z q e = let w : _≡_ {A = ℕ} 0 1 = cc in absurd (omega arith)
+    go true true p false q e = let w : _≡_ {A = ℕ} 0 1 = cc in absurd (omega arith)
+
+-- the line's own answer
+pub data Found (i : List ℕ) : Line → Type 0 where
+  octets : (o : List ℕ) → toFeed i < length i → eventIn (take (toFeed i) i) ≡ some o → Found i (Octets (length o) (toFeed i + 1))
+  refused : toFeed i < length i → eventIn (take (toFeed i) i) ≡ none → Found i (Refused (toFeed i + 1))
+  unended : length i ≤ toFeed i → Found i Open
+
+found : (i : List ℕ) → Found i (lineIn i)
+unfolding lineIn said
+found i = go (ltb (toFeed i) (length i)) refl (eventIn (take (toFeed i) i)) refl
+  where
+    go : (x : Bool) → x ≡ ltb (toFeed i) (length i) → (e : Option (List ℕ)) → e ≡ eventIn (take (toFeed i) i) → Found i (pick x (said e (toFeed i + 1)) Open)
+    go true p (some o) q = octets o (ltb-true (toFeed i) (length i) (sym p)) (sym q)
+    go true p none q = refused (ltb-true (toFeed i) (length i) (sym p)) (sym q)
+    go false p e q = unended (ltb-false (toFeed i) (length i) (sym p))
+
+-- the octets that were put are the line's
+found-octets : (i : List ℕ) (l : Line) → Found i l → (n next : ℕ) → l ≡ Octets n next → (e₀ e : List ℕ) → length e₀ ≡ 2048 → e ≡ sets e₀ 0 (leading i)
+    → take n e ≡ leading i
+found-octets i l (octets o h f) n next q e₀ e w g =
+    let k = event-is (take (toFeed i) i) o f in
+    let m : o ≡ leading i = k .0 ∙ leading-cut i in
+    let c : n ≡ length o = cc in
+    rw (g, c, sets-eq (leading i) e₀ 0 (omega (arith, k .1, ap length m)), m) (take-append-seam (leading i) _)
+found-octets i l (refused h f) n next q e₀ e w g = let z : _≡_ {A = ℕ} 0 1 = cc in absurd (omega arith)
+found-octets i l (unended h) n next q e₀ e w g = let z : _≡_ {A = ℕ} 0 1 = cc in absurd (omega arith)
+
+pub line-reads : (i : List ℕ) (r : Line) (e₀ e : List ℕ) → length e₀ ≡ 2048 → r ≡ lineIn i → e ≡ sets e₀ 0 (leading i) → LineRead i r e
+line-reads i r e₀ e w q g = record { line = q; octets = λ n next k. found-octets i (lineIn i) (found i) n next (sym q ∙ k) e₀ e w g }
+
+module _ (s : Session) (i : List ℕ) where
+  taken-octets : (l : Line) → Found i l → (n next : ℕ) → l ≡ Octets n next → false ≡ s .passing
+      → lineTaken s i ≡ heard next (answerTo (s .phase) (s .unit) (some (leading i)))
+  unfolding lineTaken
+  taken-octets l (octets o h f) n next q p =
+      let m : o ≡ leading i = event-is (take (toFeed i) i) o f .0 ∙ leading-cut i in
+      let d : next ≡ toFeed i + 1 = cc in
+      rw (lt-ltb (toFeed i) (length i) h, ← p, f, m, d)
+  taken-octets l (refused h f) n next q p = let z : _≡_ {A = ℕ} 0 1 = cc in absurd (omega arith)
+  taken-octets l (unended h) n next q p = let z : _≡_ {A = ℕ} 0 1 = cc in absurd (omega arith)
+
+  taken-refused : (l : Line) → Found i l → (next : ℕ) → l ≡ Refused next → false ≡ s .passing
+      → lineTaken s i ≡ heard next (answerTo (s .phase) (s .unit) none)
+  unfolding lineTaken
+  taken-refused l (refused h f) next q p = let d : next ≡ toFeed i + 1 = cc in rw (lt-ltb (toFeed i) (length i) h, ← p, f, d)
+  taken-refused l (octets o h f) next q p = let z : _≡_ {A = ℕ} 0 1 = cc in absurd (omega arith)
+  taken-refused l (unended h) next q p = let z : _≡_ {A = ℕ} 0 1 = cc in absurd (omega arith)
+
+  taken-open : (l : Line) → Found i l → l ≡ Open → lineTaken s i ≡ notEnded s i
+  unfolding lineTaken
+  taken-open l (unended h) q = rw (le-ltb (toFeed i) (length i) h)
+  taken-open l (octets o h f) q = let z : _≡_ {A = ℕ} 0 1 = cc in absurd (omega arith)
+  taken-open l (refused h f) q = let z : _≡_ {A = ℕ} 0 1 = cc in absurd (omega arith)
+
+  module _ {r : Line} {e : List ℕ} (l : LineRead i r e) where
+    pub line-octets : (n next : ℕ) → r ≡ Octets n next → (o : List ℕ) → o ≡ take n e → false ≡ s .passing
+        → lineTaken s i ≡ heard next (answerTo (s .phase) (s .unit) (some o))
+    line-octets n next q o f p =
+        taken-octets (lineIn i) (found i) n next (sym (l .line) ∙ q) p ∙ ap (λ x. heard next (answerTo (s .phase) (s .unit) (some x))) (sym (f ∙ l .octets n next q))
+
+    pub line-refused : (next : ℕ) → r ≡ Refused next → false ≡ s .passing → lineTaken s i ≡ heard next (answerTo (s .phase) (s .unit) none)
+    line-refused next q p = taken-refused (lineIn i) (found i) next (sym (l .line) ∙ q) p
+
+    pub line-open : r ≡ Open → lineTaken s i ≡ notEnded s i
+    line-open q = taken-open (lineIn i) (found i) (sym (l .line) ∙ q)
+
+-- ---- the input's end
+
+ends : (p : Phase) (u : Value) → atEnd (answerTo p u none .phase) ≡ []
+unfolding answerTo
+ends First u = refl
+ends Running u = refl
+ends Stopped u = refl
+
+pub finish-room : (n : ℕ) → false ≡ ltb (n - 0) most → 0 + most ≤ n
+finish-room n e = let h = ltb-false (n - 0) most (sym e) in omega arith
+
+module _ (s : Session) (held out : List ℕ) where
+  pub finish-full : true ≡ ltb (length out - 0) most → Put out 0 (finishing (length out) s held) out 0
+  unfolding finishing
+  finish-full e = let z : length out - 0 ≡ length out = omega arith in rw (← z, ← e) (Puts.none out 0)
+
+  pub finish-open : (after : List ℕ) (r : Fed) → false ≡ ltb (length out - 0) most → either (s .passing) (ltb 0 (length held)) ≡ true
+      → Takes (heard 0 (answerTo (s .phase) (s .unit) none)) out 0 after r → Put out 0 (finishing (length out) s held) after (r .written)
+  unfolding finishing listed
+  finish-open after r e o t =
+      let z : length out - 0 ≡ length out = omega arith in
+      rw (← z, ← e, o, ends (s .phase) (s .unit), append-nil (text (answerTo (s .phase) (s .unit) none .lines))) (t .put)
+
+  pub finish-shut : (after : List ℕ) (r : ℕ) → false ≡ ltb (length out - 0) most → either (s .passing) (ltb 0 (length held)) ≡ false
+      → Put out 0 (atEnd (s .phase)) after r → Put out 0 (finishing (length out) s held) after r
+  unfolding finishing listed
+  finish-shut after r e o p = let z : length out - 0 ≡ length out = omega arith in rw (← z, ← e, o) p

@@ -1,0 +1,4 @@
+pub mod Listing
+pub mod Feeding
+pub mod Runs
+pub mod Walking
