@@ -156,11 +156,11 @@ answer-stopped p u e n out {at} q f = rw (q, f) (record { session = refl; taken 
 
 -- ---- the input's end, by phase
 
-pub end-first : {out after : List ℕ} {r : ℕ} (p : Phase) → p ≡ First → Put out 0 (text (refusalLine 7 ∷ [])) after r → Put out 0 (atEnd p) after r
-end-first p e h = rw e h
+pub end-first : {out after : List ℕ} {r : ℕ} (p : Phase) → p ≡ First → Put out 0 (text (refusalLine 7 ∷ [])) after r → r ≡ 0 + 5 → (Put out 0 (atEnd p) after r) × (r ≤ 5)
+end-first p e h k = (rw e h, omega arith)
 
-pub end-running : (out : List ℕ) (p : Phase) → p ≡ Running → Put out 0 (atEnd p) out 0
-end-running out p e = rw e (Puts.none out 0)
+pub end-running : (out : List ℕ) (p : Phase) → p ≡ Running → (Put out 0 (atEnd p) out 0) × (0 ≤ 5)
+end-running out p e = (rw e (Puts.none out 0), omega arith)
 
-pub end-stopped : (out : List ℕ) (p : Phase) → p ≡ Stopped → Put out 0 (atEnd p) out 0
-end-stopped out p e = rw e (Puts.none out 0)
+pub end-stopped : (out : List ℕ) (p : Phase) → p ≡ Stopped → (Put out 0 (atEnd p) out 0) × (0 ≤ 5)
+end-stopped out p e = (rw e (Puts.none out 0), omega arith)

@@ -142,6 +142,8 @@ module _ {s : Session} {i out₀ out : List ℕ} {fed : Fed} {left : ℕ} (g : G
     session = sym (g .session ∙ ap (λ f. f .session) e);
     taken = sym (g .taken ∙ ap (λ f. fed .taken + f .taken) e ∙ add-zero (fed .taken));
     put = Puts.put-as (sym (g .written ∙ ap (λ f. g .shown ++ f .written) e ∙ append-nil (g .shown))) (g .put);
+    within = g .inside;
+    fits = g .room;
   }
 
   pub going-end : left ≤ 0 → Feeds s i out₀ fed out
@@ -170,6 +172,8 @@ module _ {s : Session} {i out₀ out : List ℕ} {fed : Fed} {left : ℕ} (g : G
           session = t .session ∙ ap (λ (x : Taken). x .session) idle ∙ f .session;
           taken = e ∙ f .taken;
           put = Puts.put-as (append-nil (feeding (length i) (length out₀) s i .written)) (Puts.then (f .put) p);
+          within = omega (arith, g .inside);
+          fits = omega (arith, g .room, p .place);
         }
 
     module _ (more : 0 < left) (fits : false ≡ ltb (length out - fed .written) most) where

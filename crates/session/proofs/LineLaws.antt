@@ -157,18 +157,24 @@ pub finish-room : (n : ℕ) → false ≡ ltb (n - 0) most → 0 + most ≤ n
 finish-room n e = let h = ltb-false (n - 0) most (sym e) in omega arith
 
 module _ (s : Session) (held out : List ℕ) where
-  pub finish-full : true ≡ ltb (length out - 0) most → Put out 0 (finishing (length out) s held) out 0
+  pub finish-full : true ≡ ltb (length out - 0) most → (Put out 0 (finishing (length out) s held) out 0) × (0 ≤ length out)
   unfolding finishing
-  finish-full e = let z : length out - 0 ≡ length out = omega arith in rw (← z, ← e) (Puts.none out 0)
+  finish-full e = let z : length out - 0 ≡ length out = omega arith in (rw (← z, ← e) (Puts.none out 0), omega arith)
 
-  pub finish-open : (after : List ℕ) (r : Fed) → false ≡ ltb (length out - 0) most → either (s .passing) (ltb 0 (length held)) ≡ true
-      → Takes (heard 0 (answerTo (s .phase) (s .unit) none)) out 0 after r → Put out 0 (finishing (length out) s held) after (r .written)
-  unfolding finishing listed
-  finish-open after r e o t =
-      let z : length out - 0 ≡ length out = omega arith in
-      rw (← z, ← e, o, ends (s .phase) (s .unit), append-nil (text (answerTo (s .phase) (s .unit) none .lines))) (t .put)
+  module _ (fits : false ≡ ltb (length out - 0) most) where
+    room : ltb (length out) most ≡ false
+    room = let z : length out - 0 ≡ length out = omega arith in rw z at (sym fits)
 
-  pub finish-shut : (after : List ℕ) (r : ℕ) → false ≡ ltb (length out - 0) most → either (s .passing) (ltb 0 (length held)) ≡ false
-      → Put out 0 (atEnd (s .phase)) after r → Put out 0 (finishing (length out) s held) after r
-  unfolding finishing listed
-  finish-shut after r e o p = let z : length out - 0 ≡ length out = omega arith in rw (← z, ← e, o) p
+    pub finish-open : (after : List ℕ) (r : Fed) → either (s .passing) (ltb 0 (length held)) ≡ true
+        → Takes (heard 0 (answerTo (s .phase) (s .unit) none)) out 0 after r
+        → (Put out 0 (finishing (length out) s held) after (r .written)) × (r .written ≤ length out)
+    unfolding finishing listed
+    finish-open after r o t = (
+      rw (room, o, ends (s .phase) (s .unit), append-nil (text (answerTo (s .phase) (s .unit) none .lines))) (t .put),
+      omega (arith, t .small, finish-room (length out) fits),
+    )
+
+    pub finish-shut : (after : List ℕ) (r : ℕ) → either (s .passing) (ltb 0 (length held)) ≡ false
+        → Put out 0 (atEnd (s .phase)) after r → r ≤ 5 → (Put out 0 (finishing (length out) s held) after r) × (r ≤ length out)
+    unfolding finishing listed
+    finish-shut after r o p k = (rw (room, o) p, omega (arith, finish-room (length out) fits))

@@ -21,7 +21,7 @@ pub one-feed-buffer : Leaves feed.Post (λ κs r e. now (e .1 .1 .0))
 one-feed-buffer κs a x y e f p q = p .put .held ∙ sym (q .put .held)
 
 pub one-finish : Leaves finish.Post (λ κs r e. r)
-one-finish κs a x y e f p q = p .place ∙ sym (q .place)
+one-finish κs a x y e f p q = p .0 .place ∙ sym (q .0 .place)
 
 pub one-finish-buffer : Leaves finish.Post (λ κs r e. now (e .1 .1 .0))
-one-finish-buffer κs a x y e f p q = p .held ∙ sym (q .held)
+one-finish-buffer κs a x y e f p q = p .0 .held ∙ sym (q .0 .held)

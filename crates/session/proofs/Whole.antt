@@ -225,10 +225,12 @@ drains (suc n) s held h = go (feeding (length held) most s held .taken) refl (dr
     go zero e f = record { output = finishing most s held; run = finished most most (omega arith) e (omega arith) }
     go (suc k) e f =
         let r = f (feeding (length held) most s held .session) (drop (feeding (length held) most s held .taken) held)
-            (omega (arith, length-drop (feeding (length held) most s held .taken) held)) in
+        (omega (arith, length-drop (feeding (length held) most s held .taken) held)) in
         record { output = feeding (length held) most s held .written ++ r .output; run = fed most (r .run) }
 
 pub every-input : (input : List ℕ) → Ran fresh [] input
-every-input input =
-    let r = drains (length input) fresh input (omega arith) in
-    record { output = r .output; run = rw (← append-nil input) (read input (r .run)) }
+every-input input = begun (drains (length input) fresh input (omega arith))
+  where
+    -- all is read at once
+    begun : Ran fresh input [] → Ran fresh [] input
+    begun r = record { output = r .output; run = subst (λ l. Run fresh [] l (r .output)) (append-nil input) (read input (r .run)) }

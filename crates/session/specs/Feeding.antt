@@ -1,6 +1,6 @@
 -- The listing in parts: what a session makes of the input that it is handed, however that is cut. That the parts give the whole is a theorem
 -- (proofs/Runs).
-use Prim.Native.Nat.{ℕ, zero, suc, _+_, _-_}
+use Prim.Native.Nat.{ℕ, zero, suc, _+_, _-_, _≤_}
 use mathlib.Core.Path.{_≡_}
 use mathlib.Core.Bool.{Bool, true, false}
 use mathlib.Core.Option.{Option, none, some}
@@ -78,6 +78,9 @@ pub record Feeds (s : Session) (i before : List ℕ) (r : Fed) (after : List ℕ
   pub session : r .session ≡ feeding (length i) (length before) s i .session
   pub taken : r .taken ≡ feeding (length i) (length before) s i .taken
   pub put : Put before 0 (feeding (length i) (length before) s i .written) after (r .written)
+  -- no more than there is, and no more than has room
+  pub within : r .taken ≤ length i
+  pub fits : r .written ≤ length before
 
 -- ---- the end of the input
 

@@ -9,13 +9,13 @@ ghost use Rattle.book.specs.Step.{step};
 ghost use Rattle.session.specs.Listing.{noSetup, two, setupIn, begun, stateLine, goneOn, laterOutcome, answerTo, atEnd};
 ghost use Rattle.session.specs.Feeding.{heard, most};
 ghost use Rattle.session.specs.Walking.{Handled, Takes, stated, stoppedAt};
-use book::Turn;
-use book::Unit;
-use book::Verdict;
-use crate::walk;
 use crate::Fed;
 use crate::Phase;
 use crate::Session;
+use crate::walk;
+use book::Turn;
+use book::Unit;
+use book::Verdict;
 
 // Any first line but a setup.
 pub(crate) fn no_setup() -> Turn
@@ -111,7 +111,14 @@ fn turned(unit: Unit, event: &[u8], laid: &mut [u8; 1024]) -> Turn
 }
 
 // A later line.
-fn go_on(unit: Unit, next: usize, event: &[u8], laid: &mut [u8; 1024], out: &mut [u8], at: usize) -> Fed
+fn go_on(
+    unit: Unit,
+    next: usize,
+    event: &[u8],
+    laid: &mut [u8; 1024],
+    out: &mut [u8],
+    at: usize,
+) -> Fed
     requires { ⌜ at + most ≤ length (now out) ⌝ }
     ensures { λ r. ⌜ Takes (heard next (goneOn unit (laterOutcome unit (some (now (event .entry)))))) (now (out .entry)) at (now (out .exit)) r ⌝ }
 {
@@ -132,7 +139,14 @@ fn go_on_refused(unit: Unit, next: usize, out: &mut [u8], at: usize) -> Fed
 }
 
 // A line that is an event.
-pub(crate) fn heard(s: Session, next: usize, event: &[u8], laid: &mut [u8; 1024], out: &mut [u8], at: usize) -> Fed
+pub(crate) fn heard(
+    s: Session,
+    next: usize,
+    event: &[u8],
+    laid: &mut [u8; 1024],
+    out: &mut [u8],
+    at: usize,
+) -> Fed
     requires { ⌜ at + most ≤ length (now out) ⌝ }
     ensures { λ r. ⌜ Takes (heard next (answerTo (s .phase) (s .unit) (some (now (event .entry))))) (now (out .entry)) at (now (out .exit)) r ⌝ }
 {
@@ -168,7 +182,7 @@ pub(crate) fn refused(s: Session, next: usize, out: &mut [u8], at: usize) -> Fed
 // The end of an input whose last line is ended.
 pub(crate) fn at_end(phase: Phase, out: &mut [u8]) -> usize
     requires { ⌜ 5 ≤ length (now out) ⌝ }
-    ensures { λ r. ⌜ Put (now (out .entry)) 0 (atEnd phase) (now (out .exit)) r ⌝ }
+    ensures { λ r. ⌜ (Put (now (out .entry)) 0 (atEnd phase) (now (out .exit)) r) × (r ≤ 5) ⌝ }
 {
     match phase {
         Phase::First => walk::print_two(out, 0, 255, 7),

@@ -114,7 +114,14 @@ fn line_read(input: &[u8], event: &mut [u8; 2048]) -> Line
 }
 
 // The line at the front of the input.
-fn line(s: Session, input: &[u8], event: &mut [u8; 2048], laid: &mut [u8; 1024], out: &mut [u8], at: usize) -> Fed
+fn line(
+    s: Session,
+    input: &[u8],
+    event: &mut [u8; 2048],
+    laid: &mut [u8; 1024],
+    out: &mut [u8],
+    at: usize,
+) -> Fed
     requires { ⌜ at + most ≤ length (now out) ⌝ }
     ensures { λ r. ⌜ Takes (lineTaken s (now (input .entry))) (now (out .entry)) at (now (out .exit)) r ⌝ }
 {
@@ -133,7 +140,13 @@ fn line(s: Session, input: &[u8], event: &mut [u8; 2048], laid: &mut [u8; 1024],
 }
 
 // The same from where the input stands.
-fn line_after(fed: Fed, input: &[u8], event: &mut [u8; 2048], laid: &mut [u8; 1024], out: &mut [u8]) -> Fed
+fn line_after(
+    fed: Fed,
+    input: &[u8],
+    event: &mut [u8; 2048],
+    laid: &mut [u8; 1024],
+    out: &mut [u8],
+) -> Fed
     requires { ⌜ (fed .taken ≤ length (now input)) × (fed .written + most ≤ length (now out)) ⌝ }
     ensures { λ r. ⌜ Takes (shifted (fed .taken) (lineTaken (fed .session) (drop (fed .taken) (now (input .entry))))) (now (out .entry)) (fed .written) (now (out .exit)) r ⌝ }
 {
@@ -160,7 +173,13 @@ fn full(room: usize, at: usize) -> bool
 }
 
 // One line after the other, until there is no room for one more, or the next one is open.
-fn lines(s: Session, input: &[u8], event: &mut [u8; 2048], laid: &mut [u8; 1024], out: &mut [u8]) -> Fed
+fn lines(
+    s: Session,
+    input: &[u8],
+    event: &mut [u8; 2048],
+    laid: &mut [u8; 1024],
+    out: &mut [u8],
+) -> Fed
     ensures { λ r. ⌜ Feeds s (now (input .entry)) (now (out .entry)) r (now (out .exit)) ⌝ }
 {
     let mut fed = Fed {
@@ -194,7 +213,7 @@ pub fn feed(s: Session, input: &[u8], out: &mut [u8]) -> Fed
 
 // The end of the input, of which `held` is left: prints at the front of `out`, and answers how many characters were written.
 pub fn finish(s: Session, held: &[u8], out: &mut [u8]) -> usize
-    ensures { λ r. ⌜ Put (now (out .entry)) 0 (finishing (length (now (out .entry))) s (now (held .entry))) (now (out .exit)) r ⌝ }
+    ensures { λ r. ⌜ (Put (now (out .entry)) 0 (finishing (length (now (out .entry))) s (now (held .entry))) (now (out .exit)) r) × (r ≤ length (now (out .entry))) ⌝ }
 {
     if full(out.len(), 0) {
         return 0;

@@ -3,7 +3,6 @@ use native.Mathlib.Omega.{arith}
 use lib.ListN.{length}
 use mathlib.Core.Path.{sym, _∙_}
 use Rattle.session.proofs.LineLaws.{finish-full, finish-open, finish-shut, finish-room}
-use Rattle.session.proofs.LineLaws.{finish-full, finish-open, finish-shut}
 use borrow.Author.Needs.{needs}
 use Rattle.session.proofs.finish.Statement.{statement}
 use Rattle.session.proofs.finish.Tie as tie
@@ -24,7 +23,7 @@ same-length : tie.Need-same-length
 same-length c = search needs
 
 returns-2 : tie.Need-returns-2
-returns-2 c = let a = c .before .before .before .before .before .before .before .before .before .before .args in finish-open (a .s) (a .held .now) (a .out .now) _ _ (sym (c .before .before .before .before .before .before .if1 .left) ∙ c .before .before .before .before .before .before .before .full .ensures) (sym (c .before .before .before .before .before .longer .ensures) ∙ c .before .before .before .before .if2 .taken) (c .before .before .refused .ensures)
+returns-2 c = let a = c .before .before .before .before .before .before .before .before .before .before .args in finish-open (a .s) (a .held .now) (a .out .now) (sym (c .before .before .before .before .before .before .if1 .left) ∙ c .before .before .before .before .before .before .before .full .ensures) _ _ (sym (c .before .before .before .before .before .longer .ensures) ∙ c .before .before .before .before .if2 .taken) (c .before .before .refused .ensures)
 
 at-end-requires : tie.Need-at-end-requires
 at-end-requires c κs = let h = finish-room (length (c .before .before .before .before .before .before .before .args .out .now)) (sym (c .before .before .before .if1 .left) ∙ c .before .before .before .before .full .ensures) in omega (arith, h)
@@ -33,7 +32,7 @@ same-length-2 : tie.Need-same-length-2
 same-length-2 c = search needs
 
 returns-3 : tie.Need-returns-3
-returns-3 c = let a = c .before .before .before .before .before .before .before .before .before .before .args in finish-shut (a .s) (a .held .now) (a .out .now) _ _ (sym (c .before .before .before .before .before .before .if1 .left) ∙ c .before .before .before .before .before .before .before .full .ensures) (sym (c .before .before .before .before .before .longer .ensures) ∙ c .before .before .before .before .if2 .left) (c .before .before .at-end .ensures)
+returns-3 c = let a = c .before .before .before .before .before .before .before .before .before .before .args in finish-shut (a .s) (a .held .now) (a .out .now) (sym (c .before .before .before .before .before .before .if1 .left) ∙ c .before .before .before .before .before .before .before .full .ensures) _ _ (sym (c .before .before .before .before .before .longer .ensures) ∙ c .before .before .before .before .if2 .left) (c .before .before .at-end .ensures .0) (c .before .before .at-end .ensures .1)
 
 pub finish-spec : {M : Type 1} → statement M
 finish-spec =

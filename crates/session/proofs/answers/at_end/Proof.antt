@@ -20,7 +20,7 @@ same-length : tie.Need-same-length
 same-length c = search needs
 
 returns : tie.Need-returns
-returns c = end-first _ (c .before .before .before .before .enum-told .given .1) (c .before .before .print-two .ensures .0)
+returns c = end-first _ (c .before .before .before .before .enum-told .given .1) (c .before .before .print-two .ensures .0) (c .before .before .print-two .ensures .1)
 
 returns-2 : tie.Need-returns-2
 returns-2 c = end-running _ _ (c .enum-told2 .given .1)
