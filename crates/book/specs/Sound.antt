@@ -5,7 +5,7 @@ use mathlib.Core.Bool.{Bool, true, false, not}
 use lib.ListN.{length, take, drop, getD}
 use lib.Dec.{ltb, leb, eqb}
 use Rattle.octets.specs.Choice.{pick, both, either}
-use Rattle.book.specs.Book.{Msg, plain, sure, msg, note, Reading, good, bad}
+use Rattle.book.specs.Book.{Msg, plain, sure, msg, note, Reading, good, bad, waits}
 use Rattle.book.specs.View.{readingIn}
 use Rattle.book.specs.declared.Terms.{Terms}
 use Rattle.book.specs.declared.Unit.{Unit as Value}
@@ -14,14 +14,10 @@ abbrev pub zeros : List ℕ → Bool
 zeros [] = true
 zeros (x ∷ xs) = both (eqb x 0) (zeros xs)
 
-abbrev pub member : ℕ → List ℕ → Bool
-member y [] = false
-member y (x ∷ xs) = either (eqb x y) (member y xs)
-
 -- no entry stands twice
 abbrev pub differ : List ℕ → Bool
 differ [] = true
-differ (x ∷ xs) = both (not (member x xs)) (differ xs)
+differ (x ∷ xs) = both (not (waits x xs)) (differ xs)
 
 -- "start, end and inactivity limits (2 octets each, 1..65,535), then the unit's name, 1..32 octets"
 unfoldable pub withinLimits : (start end quiet letters : ℕ) → Bool

@@ -3,8 +3,8 @@ ghost use mathlib.Core.Path.{_≡_};
 ghost use Prim.Native.Nat.{_≤_};
 ghost use lib.ListN.{length, take, drop};
 ghost use Rattle.octets.specs.Choice as Choice;
-ghost use Rattle.book.specs.Sound.{zeros, member, differ, withinLimits, setupSound, idsSound, limitOf, idleSound, busySound, keptNone, keptReads, keptGood, keptSound, stateSound, soundOf};
-ghost use Rattle.book.specs.Book.{good};
+ghost use Rattle.book.specs.Sound.{zeros, differ, withinLimits, setupSound, idsSound, limitOf, idleSound, busySound, keptNone, keptReads, keptGood, keptSound, stateSound, soundOf};
+ghost use Rattle.book.specs.Book.{good, waits};
 ghost use Rattle.book.specs.View.{readingIn};
 ghost use Rattle.book.proofs.Views.{Reads, frameAt};
 use book::Unit;
@@ -38,7 +38,7 @@ fn clear_ids(s: &[u16]) -> bool
 }
 
 fn among(s: &[u16], id: u16) -> bool
-    ensures { λ r. ⌜ r ≡ member id (now (s .entry)) ⌝ }
+    ensures { λ r. ⌜ r ≡ waits id (now (s .entry)) ⌝ }
 {
     let mut i = 0;
     while i < s.len() {

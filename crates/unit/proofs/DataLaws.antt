@@ -28,7 +28,7 @@ use Rattle.book.specs.declared.Turn.{Turn}
 use Rattle.book.specs.declared.Verdict.the-variants.{Done}
 use Rattle.book.specs.declared.Found.{Found}
 use Rattle.book.specs.declared.Found.the-variants.{Place, Nowhere}
-use Rattle.book.specs.Book.{Body, Msg, plain, sure, Kind, ok, not-ok, unknown, Frame, msg, note, good, bad, Out, give, answer, send, dat, seen, State, idle, single, multi, ending, assoc, Setup, Outcome, done, same, waitingOf, without, without-in, ack, ack-body, with-seen, noted, left-waiting, result-of, fall, on-dat}
+use Rattle.book.specs.Book.{Body, Msg, plain, sure, Kind, ok, not-ok, unknown, Frame, msg, note, good, bad, Out, give, answer, send, dat, seen, State, idle, single, multi, ending, assoc, Setup, Outcome, done, waitingOf, without, without-in, ack, ack-body, with-seen, noted, left-waiting, result-of, fall, on-dat}
 use Rattle.book.specs.View.{needed, bodyIn, viewed, readingIn, frameOctets, msgOctets}
 use Rattle.book.specs.Lines.{lineOf, termsOctets, resultNumber}
 use Rattle.book.specs.Turns.{takes}
@@ -105,7 +105,7 @@ cut-step false y w Nowhere = refl
 cut-step false y w (Place i) = refl
 
 without-found : (x : ℕ) (w : List ℕ) → without x w ≡ cut-out w (placeOf x 0 w)
-unfolding without same cut-out
+unfolding without cut-out
 without-found x [] = refl
 without-found x (y ∷ w) = rw (without-found x w, place-bump x 0 w) (cut-step (eqb x y) y w (placeOf x 0 w))
 
