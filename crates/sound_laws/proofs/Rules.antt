@@ -164,7 +164,7 @@ module _ (s : Setup) (p : Positive s) where
   keeps-multi b a m (multi T w t) e h k x = refuses
   keeps-multi b a m (ending T w t) e h k x = refuses
   keeps-multi (some n) a m (assoc T w t) e h k x = refuses
-  keeps-multi none a m (assoc T w t) e h k (in-assoc r l y) = goes (in-assoc r (listed-after a T m w t e l) (p .quiet))
+  keeps-multi none a m (assoc T w t) e h k (in-assoc r l y) = goes (in-assoc r (listed-after a T m w t e l) (p .inactivity))
 
   keeps-shot : (b : Bool) (a : Terms) (m : Msg) (st : State) → bodyOf m .maintained ≡ b → a .rer ≤ 2 → Allowed (msgMessage m) → Within s st → Keeps s (on-shot b a m st)
   unfolding on-shot
@@ -213,7 +213,7 @@ module _ (s : Setup) (p : Positive s) where
 
   keeps-contact : (a : Terms) (f : Option Reading) → Rated a → Keeps s (first-contact s a f)
   unfolding first-contact
-  keeps-contact a none r = goes (in-assoc r alone (p .quiet))
+  keeps-contact a none r = goes (in-assoc r alone (p .inactivity))
   keeps-contact a (some (bad n)) r = goes in-idle
   keeps-contact a (some (good (msg m) e)) r = keeps-greet (bodyOf m .maintained) a e m
   keeps-contact a (some (good (note k n i q b) e)) r = goes in-idle
@@ -228,7 +228,7 @@ module _ (s : Setup) (p : Positive s) where
 
   keeps-begun : (a : Terms) (k : Msg) (f : Option Reading) → Rated a → Keeps s (begun s a k f)
   unfolding begun fall
-  keeps-begun a k none r = goes (in-assoc r (wide k) (p .quiet))
+  keeps-begun a k none r = goes (in-assoc r (wide k) (p .inactivity))
   keeps-begun a k (some f) r = goes in-idle
 
   pub keeps-reply : (b : Bool) (f : Option Reading) (st : State) → Within s st → Keeps s (on-reply s b f st)
@@ -250,9 +250,9 @@ module _ (s : Setup) (p : Positive s) where
   keeps-dat (good (msg m) e) (ending T w t) x = goes x
   keeps-dat (good (note k n i q b) e) (ending T w t) (in-ending r l h) = goes (in-ending r (listed-fewer n w l) h)
   keeps-dat (bad n) (assoc T w t) x = goes in-idle
-  keeps-dat (good (msg (plain i n q b)) e) (assoc T w t) (in-assoc r l h) = goes (in-assoc r l (p .quiet))
-  keeps-dat (good (msg (sure i n q b)) e) (assoc T w t) (in-assoc r l h) = goes (in-assoc r l (p .quiet))
-  keeps-dat (good (note k n i q b) e) (assoc T w t) (in-assoc r l h) = goes (in-assoc r (listed-fewer n w l) (p .quiet))
+  keeps-dat (good (msg (plain i n q b)) e) (assoc T w t) (in-assoc r l h) = goes (in-assoc r l (p .inactivity))
+  keeps-dat (good (msg (sure i n q b)) e) (assoc T w t) (in-assoc r l h) = goes (in-assoc r l (p .inactivity))
+  keeps-dat (good (note k n i q b) e) (assoc T w t) (in-assoc r l h) = goes (in-assoc r (listed-fewer n w l) (p .inactivity))
 
   pub keeps-fin : (st : State) → Keeps s (on-fin s st)
   unfolding on-fin
@@ -269,7 +269,7 @@ module _ (s : Setup) (p : Positive s) where
   keeps-finOk b (multi T k t) x = refuses
   keeps-finOk b (assoc T w t) x = refuses
   keeps-finOk true (ending T w t) x = goes in-idle
-  keeps-finOk false (ending T w t) (in-ending r l h) = goes (in-assoc r l (p .quiet))
+  keeps-finOk false (ending T w t) (in-ending r l h) = goes (in-assoc r l (p .inactivity))
 
   pub keeps-abort : (n : ℕ) (st : State) → Keeps s (on-abort s n st)
   unfolding on-abort quiet-fall

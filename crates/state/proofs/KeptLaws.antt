@@ -84,9 +84,9 @@ unfolding idsSound
 ids-are w n e h p q t = t ∙ rw (le-leb n 8 h, p, q, to-end w n 8 e)
 
 module _ (u : Value) where
-  pub limit-quiet : u .state ≡ 4 → u .quiet ≡ limitOf u
+  pub limit-inactivity : u .state ≡ 4 → u .inactivity ≡ limitOf u
   unfolding limitOf
-  limit-quiet e = rw (eq-eqb (u .state) 4 e)
+  limit-inactivity e = rw (eq-eqb (u .state) 4 e)
 
   pub limit-end : (u .state ≡ 4 → ⊥) → u .state ≡ 3 → u .end ≡ limitOf u
   unfolding limitOf

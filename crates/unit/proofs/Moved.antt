@@ -176,9 +176,9 @@ pub begun-assoc : (s : Setup) (T : Terms) (k : Msg) (t : ℕ) (u : Value) → u 
 unfolding entered
 begun-assoc s T k t u e = rw (e, padded-none 554)
 
-pub made-is : (start end quiet : ℕ) (name : List ℕ) →
-    made start end quiet (padded 32 name) (length name) ≡ picture (record { name = name; start-limit = start; end-limit = end; inactivity-limit = quiet }) idle
-made-is start end quiet name = rw (padded-none 8, padded-none 554)
+pub made-is : (start end inactivity : ℕ) (name : List ℕ) →
+    made start end inactivity (padded 32 name) (length name) ≡ picture (record { name = name; start-limit = start; end-limit = end; inactivity-limit = inactivity }) idle
+made-is start end inactivity name = rw (padded-none 8, padded-none 554)
 
 -- ---- a frame or a name, put into an array of its own octet by octet
 
