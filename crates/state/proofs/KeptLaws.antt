@@ -16,10 +16,10 @@ use Rattle.frame.specs.Reading.{readingOf}
 use Rattle.frame.specs.Decoding.{messageAt, heldAt, twoOctets}
 use Rattle.octets.specs.Choice.{both}
 use Rattle.book.specs.Book.{Frame, good}
-use Rattle.book.specs.View.{needed, readingIn}
+use Rattle.book.specs.View.{needed, readingIn, frameAt}
 use Rattle.book.specs.Sound.{zeros, differ, idsSound, limitOf, keptReads, keptGood, keptNone, keptSound, stateSound, idleSound, busySound}
 use Rattle.book.specs.declared.Unit.{Unit as Value}
-use Rattle.book.proofs.Views.{frameAt, faulty-reading, whole-reading, plain-view, sure-view, note-view}
+use Rattle.book.proofs.Views.{faulty-reading, whole-reading, plain-view, sure-view, note-view}
 use Rattle.state.proofs.Scan.{to-end}
 
 -- ---- the kept frame

@@ -21,9 +21,8 @@ use Rattle.frame.specs.declared.OneOctet.the-variants.{NoOctet, Octet}
 use Rattle.frame.proofs.WriterLaws.{encode-is}
 use Rattle.frame.proofs.BareLaws.{bare-length}
 use Rattle.book.specs.Book.{Kind, ok, not-ok, unknown}
-use Rattle.book.specs.View.{frameOctets, frameMessage, kindNumber}
+use Rattle.book.specs.View.{frameOctets, frameMessage, kindNumber, kindFor}
 use Rattle.book.specs.Lines.{laid}
-use Rattle.book.proofs.Views.{kindFor}
 use Rattle.unit.specs.Pens.{Laid}
 use Rattle.unit.specs.Notes.{noteFrame, noteOctets, answerLine}
 use Rattle.unit.specs.declared.lines.Pen.{Pen}

@@ -29,14 +29,14 @@ use Rattle.book.specs.declared.Verdict.the-variants.{Done}
 use Rattle.book.specs.declared.Found.{Found}
 use Rattle.book.specs.declared.Found.the-variants.{Place, Nowhere}
 use Rattle.book.specs.Book.{Body, Msg, plain, sure, Frame, msg, note, Reading, good, bad, Out, send, start, dat, State, idle, single, multi, ending, assoc, Setup, Outcome, refused, done, same-terms, settled, idsOf, waitingOf, waits, full, bodyOf, vet, bar-confirmed, bar, on-single, on-multi, on-shot, on-vetted, on-request}
-use Rattle.book.specs.View.{needed, bodyIn, viewedAs, viewed, readingIn, frameOctets, msgOctets, frameMessage}
+use Rattle.book.specs.View.{needed, bodyIn, viewedAs, viewed, readingIn, frameOctets, msgOctets, frameMessage, frameAt, kindFor}
 use Rattle.book.specs.Lines.{lineOf, termsOctets}
 use Rattle.book.specs.Turns.{takes}
 use Rattle.book.specs.Waiting.{placeOf}
 use Rattle.book.specs.Picture.{picture, setupOf, stateOf, idsIn, msgIn}
 use Rattle.book.specs.Step.{Turned, turnOf}
-use Rattle.book.specs.Ready.{Ready}
-use Rattle.book.proofs.Views.{Reads, reads-made, frameAt, know, view-octets, faulty-reading, whole-reading, plainIn, sureIn, noteIn, kindFor, plain-view, sure-view, note-view}
+use Rattle.book.specs.Ready.{Ready, Reads}
+use Rattle.book.proofs.Views.{reads-made, know, view-octets, faulty-reading, whole-reading, plainIn, sureIn, noteIn, plain-view, sure-view, note-view}
 use Rattle.unit.specs.declared.lines.Pen.{Pen}
 use Rattle.unit.specs.Pens.{Laid}
 use Rattle.unit.specs.Moves.{advanced, entered, keeping, appended, joined}

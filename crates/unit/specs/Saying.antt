@@ -17,7 +17,7 @@ use Rattle.book.specs.Book.{Msg, Frame, Setup, Outcome, first-contact, good, Ou
 use Rattle.book.specs.Lines.{lineOf}
 use Rattle.book.specs.Picture.{setupOf, stateOf, msgIn}
 use Rattle.book.specs.declared.Unit.{Unit as Value}
-use Rattle.book.proofs.Views.{frameAt}
+use Rattle.book.specs.View.{frameAt}
 use Rattle.unit.specs.declared.lines.Pen.{Pen}
 
 abbrev pub said : List Out → List (List ℕ)

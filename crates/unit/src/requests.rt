@@ -10,8 +10,7 @@ ghost use Rattle.book.specs.Book.{on-request, on-shot, on-single, on-multi, bar
 ghost use Rattle.book.specs.View.{readingIn};
 ghost use Rattle.book.specs.Picture.{stateOf};
 ghost use Rattle.book.specs.Step.{Turned};
-ghost use Rattle.book.specs.Ready.{Ready};
-ghost use Rattle.book.proofs.Views.{Reads};
+ghost use Rattle.book.specs.Ready.{Ready, Reads};
 ghost use Rattle.unit.specs.Moves.{joined};
 ghost use Rattle.unit.specs.Saying.{msgAt};
 use crate::finished;
