@@ -141,11 +141,7 @@ fn name_of(name: &[u8]) -> [u8; 32]
     ensures { λ r. ⌜ r ≡ padded 32 (now (name .entry)) ⌝ }
 {
     let mut letters = [0u8; 32];
-    let mut i = 0;
-    while i < name.len() {
-        letters[i] = name[i];
-        i += 1;
-    }
+    octets::put(&mut letters, 0, name);
     letters
 }
 
