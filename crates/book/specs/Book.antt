@@ -366,14 +366,3 @@ on-abort s r (single T w t) = quiet-fall s false w r
 on-abort s r (multi T k t) = quiet-fall s true (idsOf k) r
 on-abort s r (ending T w t) = quiet-fall s true w r
 on-abort s r (assoc T w t) = quiet-fall s true w r
-
--- ---------------------------------------------------------------- a line of the link as an event
-
-unfoldable pub on-line : Setup → Line → State → Outcome
-on-line s (start a f) u = on-start s a f u
-on-line s (reply a f) u = on-reply s a f u
-on-line s (dat f) u = on-dat s f u
-on-line s fin u = on-fin s u
-on-line s (finOk a) u = on-finOk s a u
-on-line s (cut r) u = on-abort s 0 u
-on-line s lost u = on-abort s 1 u

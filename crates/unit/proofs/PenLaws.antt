@@ -49,9 +49,6 @@ laid-as e l = rw e at l
 
 -- ---- one line: a head with the line's length in front, then the rest of it
 
-pub put-made : (src b a : List ℕ) (at : ℕ) → a ≡ sets b at src → Put b at src a (at + length src)
-put-made src b a at e = record { held = e; place = refl }
-
 pub head-put : (head : List ℕ) (n at : ℕ) {b b1 a : List ℕ} {j r : ℕ} → length head + n < 65536 →
     Put b at ((length head + n) / 256 % 256 ∷ (length head + n) % 256 ∷ []) b1 j → Put b1 j head a r →
     Put b at ((length head + n) / 256 ∷ (length head + n) % 256 ∷ head) a r
