@@ -31,7 +31,8 @@ use Rattle.book.specs.Sound.{soundOf, withinLimits}
 use Rattle.book.specs.Step.{does, orNothing, step, Turned, turnOf, setUp, blank}
 use Rattle.book.specs.Ready.{Ready}
 use Rattle.unit.specs.Moves.{made}
-use Rattle.unit.specs.Saying.{columnOf, userDataOf}
+use Rattle.unit.specs.Saying.{columnOf}
+use Rattle.unit.specs.UserData.{userDataOf}
 use Rattle.unit.proofs.Moved.{not-taken, made-is, padded-none}
 use Rattle.unit.proofs.Gave.{turned-as}
 
