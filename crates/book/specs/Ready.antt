@@ -1,5 +1,6 @@
 -- What the functions over a sound unit ask of it, and those over a frame that was read ask of the frame. A sound unit is ready (crate state,
 -- proofs/Sounds); a frame whose reading is whole reads so (proofs/Views).
+-- No public contract speaks of this file, only contracts of functions inside a crate: a reader of 01 may skip it.
 use Prim.Native.Nat.{ℕ, _≤_, _<_}
 use mathlib.Core.Path.{_≡_}
 use mathlib.Core.List.{List}

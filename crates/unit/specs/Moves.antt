@@ -1,4 +1,5 @@
 -- What the code's small functions make of a unit: one move each.
+-- No public contract speaks of this file, only contracts of functions inside a crate: a reader of 01 may skip it.
 use Prim.Native.Nat.{ℕ, _+_, _-_}
 use mathlib.Core.List.{List, [], _∷_}
 use lib.ListN.{length, set, replicate}

@@ -1,4 +1,5 @@
 -- The confirmations that the unit makes itself: acknowledgements and local answers.
+-- No public contract speaks of this file, only contracts of functions inside a crate: a reader of 01 may skip it.
 use Prim.Native.Nat.{ℕ}
 use mathlib.Core.List.{List, _∷_}
 use mathlib.Core.Bool.{Bool}
