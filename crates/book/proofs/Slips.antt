@@ -38,7 +38,7 @@ okay r = note ok r none (0x41 ∷ []) body
 
 -- "Answering the oldest waiting identifier whichever reference came": two load sheets wait, the newer is answered, the older waits on
 pub not-the-oldest : on-dat G1 (good (okay 9) 0) (assoc terms (7 ∷ 9 ∷ []) 5) ≡ done (assoc terms (7 ∷ []) 0) (answer 9 success (okay 9) ∷ [])
-unfolding on-dat Book.noted Book.left-waiting Book.without Book.without-in Book.same Book.with-seen Book.result-of
+unfolding on-dat Book.noted Book.left-waiting Book.without Book.without-in Book.with-seen Book.result-of
 not-the-oldest = refl
 
 -- "Taking a rejected D-START as failure: for single shot it is the normal carrier of the acknowledgement"
@@ -64,14 +64,14 @@ pub refused-in-order :
     × (on-request true terms (good (msg (sheet 9)) 0) (assoc terms eight 0) ≡ refused 5)
     × (on-request false terms (good (msg (plain none none none body)) 0) (assoc terms eight 7)
     ≡ done (assoc terms eight 0) (send (dat (good (msg (plain none none none body)) 0)) ∷ []))
-unfolding on-request Book.on-vetted Book.vet Book.on-shot Book.bodyOf Book.on-multi Book.bar Book.bar-confirmed Book.same-terms Book.settled Book.both Book.same Book.cond Book.waits Book.full Book.idsOf
+unfolding on-request Book.on-vetted Book.vet Book.on-shot Book.bodyOf Book.on-multi Book.bar Book.bar-confirmed Book.same-terms Book.settled Book.full Book.idsOf
 refused-in-order = (refl, refl, refl, refl)
 
 -- RER 0 counts as low before terms are kept, sent or compared
 pub rer-settled :
     (on-request true unsettled (good (msg (sheet 5)) 0) idle ≡ done (multi terms (sheet 5) 0) (send (start terms none) ∷ []))
     × (on-request true unsettled (good (msg (sheet 5)) 0) (assoc terms [] 0) ≡ done (assoc terms (5 ∷ []) 0) (send (dat (good (msg (sheet 5)) 0)) ∷ []))
-unfolding on-request Book.on-vetted Book.vet Book.on-shot Book.bodyOf Book.on-multi Book.bar Book.bar-confirmed Book.same-terms Book.settled Book.both Book.same Book.cond Book.waits Book.full Book.idsOf
+unfolding on-request Book.on-vetted Book.vet Book.on-shot Book.bodyOf Book.on-multi Book.bar Book.bar-confirmed Book.same-terms Book.settled Book.full Book.idsOf
 rer-settled = (refl, refl)
 
 -- a fall: 35, those who wait in sending order, 24

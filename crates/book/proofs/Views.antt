@@ -21,7 +21,8 @@ use Rattle.frame.proofs.WriterLaws.{Sound}
 use Rattle.frame.proofs.Inversion.{Known, known}
 use Rattle.frame.proofs.Laws as Laws
 use Rattle.book.specs.Book.{Body, Msg, plain, sure, Kind, ok, not-ok, unknown, Frame, msg, note, Reading, bad, good}
-use Rattle.book.specs.View.{needed, bodyIn, viewedAs, viewed, heard, readingIn, messageWith, kindNumber, msgMessage, frameMessage, msgOctets, frameOctets}
+use Rattle.book.specs.View.{needed, bodyIn, viewedAs, viewed, frameAt, kindFor, heard, readingIn, messageWith, kindNumber, msgMessage, frameMessage, msgOctets, frameOctets}
+use Rattle.book.specs.Ready.{Reads}
 
 no-way : {A : Type 0} → true ≡ false → A
 no-way e = let z : _≡_ {A = ℕ} 0 1 = cc in absurd (omega arith)
@@ -80,23 +81,10 @@ octets-short f a = Laws.short (frameMessage f) a
 
 -- ---- a frame that was read by the code, as its header says
 
-pub record Reads (s : List ℕ) (h : Header) (n : ℕ) : Type 0 where
-  pub reads : readingOf s ≡ Whole h n
-  pub small : (i : ℕ) → octet s i < 256
-  -- what the code needs to know of the numbers, so that it is found here
-  pub few : n ≤ 511
-  pub two : 2 ≤ h .end
-  pub within : h .end ≤ length s
-  pub short : h .end ≤ 554
-
 pub reads-made : (s : List ℕ) (h : Header) (n : ℕ) {x : Answer} → x ≡ readingOf s → x ≡ Whole h n → ((i : ℕ) → octet s i < 256) → Reads s h n
 reads-made s h n q e small =
     let k = known s small h n (sym q ∙ e) in
     record { reads = sym q ∙ e; small = small; few = k .few; two = k .two; within = k .within; short = k .short }
-
--- the frame that a header points at
-abbrev pub frameAt : List ℕ → Header → Frame
-frameAt s h = viewed (messageAt s h)
 
 pub faulty-reading : (s : List ℕ) {x : Answer} {f : Fault} → x ≡ readingOf s → x ≡ Faulty f → readingIn s ≡ bad (faultNumber f)
 unfolding readingIn decode
@@ -121,13 +109,6 @@ plainIn m = plain (m .messageIdentifier) (m .messageReference) (m .sender) (body
 
 abbrev pub sureIn : Message → Msg
 sureIn m = sure (needed (m .messageIdentifier)) (m .messageReference) (m .sender) (bodyIn m)
-
-abbrev pub kindFor : ℕ → Kind
-kindFor zero = ok
-kindFor (suc zero) = ok
-kindFor (suc (suc zero)) = ok
-kindFor (suc (suc (suc zero))) = not-ok
-kindFor (suc (suc (suc (suc n)))) = unknown
 
 abbrev pub noteIn : Message → Frame
 noteIn m = note (kindFor (m .confirmation)) (needed (m .messageReference)) (m .messageIdentifier) (octetsOr (m .sender)) (bodyIn m)

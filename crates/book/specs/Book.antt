@@ -1,11 +1,12 @@
 -- THE RULE BOOK: messages, lines, states, and what each event does in each state (01, "The five states"), at the level of messages.
 -- The code is proved to do this (crate unit), and demand 3 stands on it (crate link).
-use mathlib.Core.Bool.{Bool, true, false, _||_}
+use mathlib.Core.Bool.{Bool, true, false}
 use mathlib.Core.Option.{Option, none, some}
 use mathlib.Core.List.{List, [], _∷_, _++_}
 use Prim.Native.Nat.{ℕ, zero, suc}
 use lib.Dec.{eqb, leb}
 use lib.ListN.{length}
+use Rattle.octets.specs.Choice.{pick, both, either}
 use Rattle.book.specs.declared.Terms.{Terms}
 
 -- ---------------------------------------------------------------- messages and lines
@@ -82,24 +83,13 @@ pub data Outcome : Type 0 where
 
 -- ---------------------------------------------------------------- terms
 
-unfoldable pub same : ℕ → ℕ → Bool
-same m n = eqb m n
-
-unfoldable pub cond : {A : Type 0} → Bool → A → A → A
-cond true a b = a
-cond false a b = b
-
-unfoldable pub both : Bool → Bool → Bool
-both true b = b
-both false b = false
-
 -- Terms that agree, for refusal 3.
 unfoldable pub same-terms : Terms → Terms → Bool
-same-terms a b = both (same (a .class) (b .class)) (both (same (a .priority) (b .priority)) (same (a .rer) (b .rer)))
+same-terms a b = both (eqb (a .class) (b .class)) (both (eqb (a .priority) (b .priority)) (eqb (a .rer) (b .rer)))
 
 -- "residual error rate (RER): 1 low, 2 high, 0 not provided (kinds 01 and 02 only; it counts as low, 000 Table 1.3-10)"
 unfoldable pub settled : Terms → Terms
-settled a = record { class = a .class; priority = a .priority; rer = cond (same (a .rer) 0) 1 (a .rer) }
+settled a = record { class = a .class; priority = a .priority; rer = pick (eqb (a .rer) 0) 1 (a .rer) }
 
 -- ---------------------------------------------------------------- who waits
 
@@ -116,9 +106,10 @@ waitingOf (multi T k t) = idsOf k
 waitingOf (ending T w t) = w
 waitingOf (assoc T w t) = w
 
-unfoldable pub waits : ℕ → List ℕ → Bool
+-- whether `i` is in the list
+abbrev pub waits : ℕ → List ℕ → Bool
 waits i [] = false
-waits i (j ∷ w) = same i j || waits i w
+waits i (j ∷ w) = either (eqb i j) (waits i w)
 
 -- eight identifiers are waiting
 unfoldable pub full : List ℕ → Bool
@@ -132,7 +123,7 @@ without-in false j w (some v) = some (j ∷ v)
 
 unfoldable pub without : ℕ → List ℕ → Option (List ℕ)
 without r [] = none
-without r (j ∷ w) = without-in (same r j) j w (without r w)
+without r (j ∷ w) = without-in (eqb r j) j w (without r w)
 
 -- ---------------------------------------------------------------- answers made here
 
@@ -192,7 +183,7 @@ vet false (good (msg (sure i r q b)) zero) = none
 -- 4: "the identifier of an 02 is already waiting"; 5: "an 02 comes while eight identifiers are waiting (01 is still taken)"
 unfoldable pub bar-confirmed : Msg → List ℕ → Option ℕ
 bar-confirmed (plain i r q b) w = none
-bar-confirmed (sure i r q b) w = cond (waits i w) (some 4) (cond (full w) (some 5) none)
+bar-confirmed (sure i r q b) w = pick (waits i w) (some 4) (pick (full w) (some 5) none)
 
 -- The refusal 3, 4 or 5 that a multi-shot request meets in Associated, if any. 3: "a multi-shot request in Associated has terms other than the
 -- dialogue's".
@@ -201,7 +192,7 @@ bar a m idle = none
 bar a m (single T w t) = none
 bar a m (multi T k t) = none
 bar a m (ending T w t) = none
-bar a m (assoc T w t) = cond (same-terms (settled a) T) (bar-confirmed m w) (some 3)
+bar a m (assoc T w t) = pick (same-terms (settled a) T) (bar-confirmed m w) (some 3)
 
 -- "Single request in 0: line 30 with the frame, to 1."
 unfoldable pub on-single : Terms → Msg → State → Outcome
@@ -375,14 +366,3 @@ on-abort s r (single T w t) = quiet-fall s false w r
 on-abort s r (multi T k t) = quiet-fall s true (idsOf k) r
 on-abort s r (ending T w t) = quiet-fall s true w r
 on-abort s r (assoc T w t) = quiet-fall s true w r
-
--- ---------------------------------------------------------------- a line of the link as an event
-
-unfoldable pub on-line : Setup → Line → State → Outcome
-on-line s (start a f) u = on-start s a f u
-on-line s (reply a f) u = on-reply s a f u
-on-line s (dat f) u = on-dat s f u
-on-line s fin u = on-fin s u
-on-line s (finOk a) u = on-finOk s a u
-on-line s (cut r) u = on-abort s 0 u
-on-line s lost u = on-abort s 1 u

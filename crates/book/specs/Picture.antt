@@ -25,7 +25,7 @@ pictured s k a w f t = record {
   state = k;
   start = s .start-limit;
   end = s .end-limit;
-  quiet = s .inactivity-limit;
+  inactivity = s .inactivity-limit;
   elapsed = t;
   terms = a;
   letters = length (s .name);
@@ -43,7 +43,7 @@ picture s (assoc a w t) = pictured s 4 a w [] t
 -- ---- and back
 
 abbrev pub setupOf : Value → Setup
-setupOf u = record { name = take (u .letters) (u .name); start-limit = u .start; end-limit = u .end; inactivity-limit = u .quiet }
+setupOf u = record { name = take (u .letters) (u .name); start-limit = u .start; end-limit = u .end; inactivity-limit = u .inactivity }
 
 -- the identifiers that wait
 abbrev pub idsIn : Value → List ℕ

@@ -1,7 +1,13 @@
--- What the functions over a sound unit ask of it. A sound unit is ready (crate state, proofs/Sounds).
+-- What the functions over a sound unit ask of it, and those over a frame that was read ask of the frame. A sound unit is ready (crate state,
+-- proofs/Sounds); a frame whose reading is whole reads so (proofs/Views).
+-- No public contract speaks of this file, only contracts of functions inside a crate: a reader of 01 may skip it.
 use Prim.Native.Nat.{ℕ, _≤_, _<_}
 use mathlib.Core.Path.{_≡_}
+use mathlib.Core.List.{List}
 use lib.ListN.{length}
+use Rattle.frame.specs.declared.Header.{Header}
+use Rattle.frame.specs.declared.Reading.the-variants.{Whole}
+use Rattle.frame.specs.Reading.{octet, readingOf}
 use Rattle.book.specs.Picture.{picture, setupOf, stateOf}
 use Rattle.book.specs.Sound.{limitOf}
 use Rattle.book.specs.declared.Unit.{Unit as Value}
@@ -16,3 +22,13 @@ pub record Ready (u : Value) : Type 0 where
   pub wide : length (u .name) ≡ 32
   pub eight : length (u .waiting) ≡ 8
   pub held : u .octets ≤ 554
+
+-- the octets s were read by the code as a whole frame: header h, n extension fields
+pub record Reads (s : List ℕ) (h : Header) (n : ℕ) : Type 0 where
+  pub reads : readingOf s ≡ Whole h n
+  pub small : (i : ℕ) → octet s i < 256
+  -- what the code needs to know of the numbers, so that it is found here
+  pub few : n ≤ 511
+  pub two : 2 ≤ h .end
+  pub within : h .end ≤ length s
+  pub short : h .end ≤ 554

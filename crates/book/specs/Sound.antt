@@ -5,7 +5,7 @@ use mathlib.Core.Bool.{Bool, true, false, not}
 use lib.ListN.{length, take, drop, getD}
 use lib.Dec.{ltb, leb, eqb}
 use Rattle.octets.specs.Choice.{pick, both, either}
-use Rattle.book.specs.Book.{Msg, plain, sure, msg, note, Reading, good, bad}
+use Rattle.book.specs.Book.{Msg, plain, sure, msg, note, Reading, good, bad, waits}
 use Rattle.book.specs.View.{readingIn}
 use Rattle.book.specs.declared.Terms.{Terms}
 use Rattle.book.specs.declared.Unit.{Unit as Value}
@@ -14,22 +14,18 @@ abbrev pub zeros : List ℕ → Bool
 zeros [] = true
 zeros (x ∷ xs) = both (eqb x 0) (zeros xs)
 
-abbrev pub member : ℕ → List ℕ → Bool
-member y [] = false
-member y (x ∷ xs) = either (eqb x y) (member y xs)
-
 -- no entry stands twice
 abbrev pub differ : List ℕ → Bool
 differ [] = true
-differ (x ∷ xs) = both (not (member x xs)) (differ xs)
+differ (x ∷ xs) = both (not (waits x xs)) (differ xs)
 
 -- "start, end and inactivity limits (2 octets each, 1..65,535), then the unit's name, 1..32 octets"
-unfoldable pub withinLimits : (start end quiet letters : ℕ) → Bool
-withinLimits start end quiet letters = both (ltb 0 start) (both (ltb 0 end) (both (ltb 0 quiet) (both (ltb 0 letters) (leb letters 32))))
+unfoldable pub withinLimits : (start end inactivity letters : ℕ) → Bool
+withinLimits start end inactivity letters = both (ltb 0 start) (both (ltb 0 end) (both (ltb 0 inactivity) (both (ltb 0 letters) (leb letters 32))))
 
 -- "setup within limits", the unused places of the name 0
 unfoldable pub setupSound : Value → Bool
-setupSound u = both (withinLimits (u .start) (u .end) (u .quiet) (u .letters)) (zeros (drop (u .letters) (u .name)))
+setupSound u = both (withinLimits (u .start) (u .end) (u .inactivity) (u .letters)) (zeros (drop (u .letters) (u .name)))
 
 -- "at most eight distinct identifiers waiting, in sending order (the list's own order, so not tested)", the unused places 0
 unfoldable pub idsSound : List ℕ → ℕ → Bool
@@ -37,7 +33,7 @@ idsSound w n = both (leb n 8) (both (differ (take n w)) (zeros (drop n w)))
 
 -- "The limit is start in 1 and 2, end in 3, inactivity in 4."
 unfoldable pub limitOf : Value → ℕ
-limitOf u = pick (eqb (u .state) 4) (u .quiet) (pick (eqb (u .state) 3) (u .end) (u .start))
+limitOf u = pick (eqb (u .state) 4) (u .inactivity) (pick (eqb (u .state) 3) (u .end) (u .start))
 
 abbrev pub noTermsIn : Terms → Bool
 noTermsIn a = both (eqb (a .class) 0) (both (eqb (a .priority) 0) (eqb (a .rer) 0))

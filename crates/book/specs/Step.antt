@@ -74,7 +74,7 @@ blank = record {
   state = 0;
   start = 0;
   end = 0;
-  quiet = 0;
+  inactivity = 0;
   elapsed = 0;
   terms = noTerms;
   letters = 0;
@@ -83,11 +83,11 @@ blank = record {
 }
 
 -- 7: "setup is outside its limits"; else a unit in Idle
-unfoldable pub setUp : (start end quiet : ℕ) (name : List ℕ) → Turn
-setUp start end quiet name =
-    pick (withinLimits start end quiet (length name))
+unfoldable pub setUp : (start end inactivity : ℕ) (name : List ℕ) → Turn
+setUp start end inactivity name =
+    pick (withinLimits start end inactivity (length name))
     (record {
-      unit = picture (record { name = name; start-limit = start; end-limit = end; inactivity-limit = quiet }) idle;
+      unit = picture (record { name = name; start-limit = start; end-limit = end; inactivity-limit = inactivity }) idle;
       verdict = Done 0 0;
     })
     (record { unit = blank; verdict = Refused 7 })

@@ -3,9 +3,10 @@ use Prim.Native.Nat.{ℕ, zero, suc}
 use mathlib.Core.List.{List, []}
 use mathlib.Core.Option.{Option, none, some}
 use mathlib.Core.Bool.{true}
+use Rattle.frame.specs.declared.Header.{Header}
 use Rattle.frame.specs.Message.{Message}
 use Rattle.frame.specs.Encoding.{encode}
-use Rattle.frame.specs.Decoding.{Decoded, valid, fault, decode, octetsOr}
+use Rattle.frame.specs.Decoding.{Decoded, valid, fault, decode, octetsOr, messageAt}
 use Rattle.book.specs.Book.{Body, Msg, plain, sure, Kind, ok, not-ok, unknown, Frame, msg, note, Reading, bad, good}
 
 -- ---- from a message
@@ -28,6 +29,10 @@ viewedAs (suc (suc (suc (suc n)))) m = note unknown (needed (m .messageReference
 
 unfoldable pub viewed : Message → Frame
 viewed m = viewedAs (m .confirmation) m
+
+-- the frame that a header points at
+abbrev pub frameAt : List ℕ → Header → Frame
+frameAt s h = viewed (messageAt s h)
 
 abbrev pub heard : Decoded → Reading
 heard (valid m n) = good (viewed m) n
@@ -54,6 +59,14 @@ abbrev pub kindNumber : Kind → ℕ
 kindNumber ok = 2
 kindNumber not-ok = 3
 kindNumber unknown = 4
+
+-- and back: a confirmation's kind by its number, 2 to 4 (of a message's, 0 and 1, any)
+abbrev pub kindFor : ℕ → Kind
+kindFor zero = ok
+kindFor (suc zero) = ok
+kindFor (suc (suc zero)) = ok
+kindFor (suc (suc (suc zero))) = not-ok
+kindFor (suc (suc (suc (suc n)))) = unknown
 
 unfoldable pub msgMessage : Msg → Message
 msgMessage (plain i r q b) = messageWith 0 i r q b

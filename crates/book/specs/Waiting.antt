@@ -1,4 +1,6 @@
 -- The waiting list in its array (01: "waiting list as a fixed array by value in the unit, one place removed and the rest closed up").
+-- No contract of unit's public functions speaks of this file, only those of state::waiting, which unit calls: a reader of 01 may skip it. Who waits
+-- is said in Book.
 use Prim.Native.Nat.{ℕ, suc}
 use mathlib.Core.List.{List, [], _∷_, _++_}
 use mathlib.Core.Bool.{Bool}

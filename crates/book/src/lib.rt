@@ -20,7 +20,7 @@ pub struct Unit {
     // The limits in ticks: start, end, inactivity.
     pub start: u16,
     pub end: u16,
-    pub quiet: u16,
+    pub inactivity: u16,
     // Ticks since the state was entered (in Associated, since the last message).
     pub elapsed: u16,
     // The dialogue's.

@@ -161,7 +161,7 @@ pub still-sound : (room : ℕ) (u : Value) (ev : List ℕ) → soundOf u ≡ tru
 still-sound room u ev s wide eight long small h = unit-after u (step room u ev) s (λ st os e. kept room u ev st os s wide eight long small h e)
 
 -- a setup within its limits makes a sound unit
-pub new : (start end quiet : ℕ) (name : List ℕ) → withinLimits start end quiet (length name) ≡ true → soundOf (setUp start end quiet name .unit) ≡ true
+pub new : (start end inactivity : ℕ) (name : List ℕ) → withinLimits start end inactivity (length name) ≡ true → soundOf (setUp start end inactivity name .unit) ≡ true
 unfolding setUp
-new start end quiet name e =
-    rw e (pictures-sound (record { name = name; start-limit = start; end-limit = end; inactivity-limit = quiet }) idle e in-idle)
+new start end inactivity name e =
+    rw e (pictures-sound (record { name = name; start-limit = start; end-limit = end; inactivity-limit = inactivity }) idle e in-idle)

@@ -1,18 +1,18 @@
 -- Each rule of the book keeps the state within its limits. Closed by cases on the state.
 use Prim.Native.Nat.{ℕ, zero, suc, _<_, _≤_}
-use mathlib.Core.Path.{_≡_, refl}
-use mathlib.Core.Bool.{Bool, true, false, not, _||_}
+use mathlib.Core.Path.{_≡_, refl, sym}
+use mathlib.Core.Bool.{Bool, true, false, not}
 use mathlib.Core.Option.{Option, none, some}
 use mathlib.Core.List.{List, [], _∷_, _++_, append-nil}
 use native.Mathlib.Omega.{arith}
-use borrow.Author.Tests.{leb-false, not-true, ne-eqb}
+use borrow.Author.Tests.{leb-false, not-true, ne-eqb, eqb-false}
 use lib.Dec.{eqb, leb}
 use lib.ListN.{length, length-append}
-use Rattle.octets.specs.Choice.{either}
+use Rattle.octets.specs.Choice.{pick, either}
 use Rattle.frame.specs.Writing.{Allowed}
 use Rattle.frame.specs.Reading.{octet}
-use Rattle.book.specs.Sound.{differ, member}
-use Rattle.book.specs.Book.{Msg, plain, sure, msg, note, Reading, bad, good, Out, State, idle, single, multi, ending, assoc, Setup, Outcome, refused, done, same, cond, same-terms, settled, idsOf, bodyOf, waits, full, without, without-in, left-waiting, fall, quiet-fall, vet, bar, bar-confirmed, on-single, on-multi, on-shot, on-vetted, on-request, on-end, late, on-tick, greet, first-contact, on-start, begun, on-reply, on-dat, on-fin, on-finOk, on-abort}
+use Rattle.book.specs.Sound.{differ}
+use Rattle.book.specs.Book.{Msg, plain, sure, msg, note, Reading, bad, good, Out, State, idle, single, multi, ending, assoc, Setup, Outcome, refused, done, same-terms, settled, idsOf, bodyOf, waits, full, without, without-in, left-waiting, fall, quiet-fall, vet, bar, bar-confirmed, on-single, on-multi, on-shot, on-vetted, on-request, on-end, late, on-tick, greet, first-contact, on-start, begun, on-reply, on-dat, on-fin, on-finOk, on-abort}
 use Rattle.book.specs.View.{readingIn, msgMessage, frameMessage}
 use Rattle.book.specs.declared.Terms.{Terms}
 use Rattle.book.proofs.Views.{read-allowed}
@@ -43,7 +43,7 @@ fewer-in false j w (some v) f = after f
 fewer : (r : ℕ) (w : List ℕ) → Fewer (left-waiting w (without r w)) w
 unfolding left-waiting without
 fewer r [] = all
-fewer r (j ∷ w) = fewer-in (same r j) j w (without r w) (fewer r w)
+fewer r (j ∷ w) = fewer-in (eqb r j) j w (without r w) (fewer r w)
 
 fewer-length : {v w : List ℕ} → Fewer v w → length v ≤ length w
 fewer-length all = omega arith
@@ -63,52 +63,44 @@ either-none : (a b : Bool) → a ≡ false → b ≡ false → either a b ≡ fa
 either-none true b e f = e
 either-none false b e f = f
 
-fewer-member : (x : ℕ) {v w : List ℕ} → Fewer v w → member x w ≡ false → member x v ≡ false
-fewer-member x all e = e
-fewer-member x (but-first {j} {w}) e = either-right (eqb j x) (member x w) e
-fewer-member x (after {j} {v} {w} f) e =
-    either-none (eqb j x) (member x v) (either-left (eqb j x) (member x w) e) (fewer-member x f (either-right (eqb j x) (member x w) e))
+fewer-waits : (x : ℕ) {v w : List ℕ} → Fewer v w → waits x w ≡ false → waits x v ≡ false
+fewer-waits x all e = e
+fewer-waits x (but-first {j} {w}) e = either-right (eqb x j) (waits x w) e
+fewer-waits x (after {j} {v} {w} f) e =
+    either-none (eqb x j) (waits x v) (either-left (eqb x j) (waits x w) e) (fewer-waits x f (either-right (eqb x j) (waits x w) e))
 
 not-in : (b : Bool) → b ≡ false → not b ≡ true
 not-in b e = rw e
 
 fewer-differ : {v w : List ℕ} → Fewer v w → differ w ≡ true → differ v ≡ true
 fewer-differ all e = e
-fewer-differ (but-first {j} {w}) e = both-right (not (member j w)) (differ w) e
+fewer-differ (but-first {j} {w}) e = both-right (not (waits j w)) (differ w) e
 fewer-differ (after {j} {v} {w} f) e =
-    let m : member j w ≡ false = not-true (member j w) (both-left (not (member j w)) (differ w) e) in
-    joins (not (member j v)) (differ v) (not-in (member j v) (fewer-member j f m)) (fewer-differ f (both-right (not (member j w)) (differ w) e))
+    let m : waits j w ≡ false = not-true (waits j w) (both-left (not (waits j w)) (differ w) e) in
+    joins (not (waits j v)) (differ v) (not-in (waits j v) (fewer-waits j f m)) (fewer-differ f (both-right (not (waits j w)) (differ w) e))
 
 listed-fewer : {n : ℕ} (r : ℕ) (w : List ℕ) → Listed n w → Listed n (left-waiting w (without r w))
 listed-fewer r w l = let h = fewer-length (fewer r w) in record { few = omega arith; distinct = fewer-differ (fewer r w) (l .distinct) }
 
 -- ---- the waiting list, one put after it
 
-or-left : (a b : Bool) → (a || b) ≡ false → a ≡ false
-or-left true b e = e
-or-left false b e = refl
+waits-after : (x i : ℕ) (w : List ℕ) → waits x w ≡ false → eqb x i ≡ false → waits x (w ++ (i ∷ [])) ≡ false
+waits-after x i [] e q = rw q
+waits-after x i (y ∷ w) e q =
+    either-none (eqb x y) (waits x (w ++ (i ∷ []))) (either-left (eqb x y) (waits x w) e) (waits-after x i w (either-right (eqb x y) (waits x w) e) q)
 
-or-right : (a b : Bool) → (a || b) ≡ false → b ≡ false
-or-right true true e = e
-or-right true false e = refl
-or-right false b e = e
-
-member-after : (x i : ℕ) (w : List ℕ) → member x w ≡ false → eqb i x ≡ false → member x (w ++ (i ∷ [])) ≡ false
-member-after x i [] e q = rw q
-member-after x i (y ∷ w) e q =
-    either-none (eqb y x) (member x (w ++ (i ∷ []))) (either-left (eqb y x) (member x w) e) (member-after x i w (either-right (eqb y x) (member x w) e) q)
+other : (i x : ℕ) → eqb i x ≡ false → eqb x i ≡ false
+other i x e = ne-eqb x i (λ q. eqb-false i x e (sym q))
 
 differ-after : (i : ℕ) (w : List ℕ) → differ w ≡ true → waits i w ≡ false → differ (w ++ (i ∷ [])) ≡ true
-unfolding waits same
 differ-after i [] e q = refl
 differ-after i (x ∷ w) e q =
-    let m : member x w ≡ false = not-true (member x w) (both-left (not (member x w)) (differ w) e) in
-    joins (not (member x (w ++ (i ∷ [])))) (differ (w ++ (i ∷ []))) (not-in (member x (w ++ (i ∷ []))) (member-after x i w m (or-left (eqb i x) (waits i w) q)))
-    (differ-after i w (both-right (not (member x w)) (differ w) e) (or-right (eqb i x) (waits i w) q))
+    let m : waits x w ≡ false = not-true (waits x w) (both-left (not (waits x w)) (differ w) e) in
+    joins (not (waits x (w ++ (i ∷ [])))) (differ (w ++ (i ∷ []))) (not-in (waits x (w ++ (i ∷ []))) (waits-after x i w m (other i x (either-left (eqb i x) (waits i w) q))))
+    (differ-after i w (both-right (not (waits x w)) (differ w) e) (either-right (eqb i x) (waits i w) q))
 
 -- what no refusal 3, 4 or 5 says
-free : (x y z : Bool) → _≡_ {A = Option ℕ} (cond x (cond y (some 4) (cond z (some 5) none)) (some 3)) none → (y ≡ false) × (z ≡ false)
-unfolding cond
+free : (x y z : Bool) → _≡_ {A = Option ℕ} (pick x (pick y (some 4) (pick z (some 5) none)) (some 3)) none → (y ≡ false) × (z ≡ false)
 free false y z e = let z : _≡_ {A = ℕ} 0 1 = cc in absurd (omega arith)
 free true true z e = let z : _≡_ {A = ℕ} 0 1 = cc in absurd (omega arith)
 free true false true e = let z : _≡_ {A = ℕ} 0 1 = cc in absurd (omega arith)
@@ -125,13 +117,11 @@ listed-after a T (sure i r q b) w t e l =
 
 -- ---- terms
 
-rer-low : (r : ℕ) → 0 < cond (same r 0) 1 r
-unfolding cond same
+rer-low : (r : ℕ) → 0 < pick (eqb r 0) 1 r
 rer-low zero = omega arith
 rer-low (suc r) = rw (ne-eqb (suc r) 0 (λ z. omega arith)) (omega arith)
 
-rer-high : (r : ℕ) → r ≤ 2 → cond (same r 0) 1 r < 3
-unfolding cond same
+rer-high : (r : ℕ) → r ≤ 2 → pick (eqb r 0) 1 r < 3
 rer-high zero h = omega arith
 rer-high (suc r) h = rw (ne-eqb (suc r) 0 (λ z. omega arith)) (omega arith)
 
@@ -174,7 +164,7 @@ module _ (s : Setup) (p : Positive s) where
   keeps-multi b a m (multi T w t) e h k x = refuses
   keeps-multi b a m (ending T w t) e h k x = refuses
   keeps-multi (some n) a m (assoc T w t) e h k x = refuses
-  keeps-multi none a m (assoc T w t) e h k (in-assoc r l y) = goes (in-assoc r (listed-after a T m w t e l) (p .quiet))
+  keeps-multi none a m (assoc T w t) e h k (in-assoc r l y) = goes (in-assoc r (listed-after a T m w t e l) (p .inactivity))
 
   keeps-shot : (b : Bool) (a : Terms) (m : Msg) (st : State) → bodyOf m .maintained ≡ b → a .rer ≤ 2 → Allowed (msgMessage m) → Within s st → Keeps s (on-shot b a m st)
   unfolding on-shot
@@ -223,7 +213,7 @@ module _ (s : Setup) (p : Positive s) where
 
   keeps-contact : (a : Terms) (f : Option Reading) → Rated a → Keeps s (first-contact s a f)
   unfolding first-contact
-  keeps-contact a none r = goes (in-assoc r alone (p .quiet))
+  keeps-contact a none r = goes (in-assoc r alone (p .inactivity))
   keeps-contact a (some (bad n)) r = goes in-idle
   keeps-contact a (some (good (msg m) e)) r = keeps-greet (bodyOf m .maintained) a e m
   keeps-contact a (some (good (note k n i q b) e)) r = goes in-idle
@@ -238,7 +228,7 @@ module _ (s : Setup) (p : Positive s) where
 
   keeps-begun : (a : Terms) (k : Msg) (f : Option Reading) → Rated a → Keeps s (begun s a k f)
   unfolding begun fall
-  keeps-begun a k none r = goes (in-assoc r (wide k) (p .quiet))
+  keeps-begun a k none r = goes (in-assoc r (wide k) (p .inactivity))
   keeps-begun a k (some f) r = goes in-idle
 
   pub keeps-reply : (b : Bool) (f : Option Reading) (st : State) → Within s st → Keeps s (on-reply s b f st)
@@ -260,9 +250,9 @@ module _ (s : Setup) (p : Positive s) where
   keeps-dat (good (msg m) e) (ending T w t) x = goes x
   keeps-dat (good (note k n i q b) e) (ending T w t) (in-ending r l h) = goes (in-ending r (listed-fewer n w l) h)
   keeps-dat (bad n) (assoc T w t) x = goes in-idle
-  keeps-dat (good (msg (plain i n q b)) e) (assoc T w t) (in-assoc r l h) = goes (in-assoc r l (p .quiet))
-  keeps-dat (good (msg (sure i n q b)) e) (assoc T w t) (in-assoc r l h) = goes (in-assoc r l (p .quiet))
-  keeps-dat (good (note k n i q b) e) (assoc T w t) (in-assoc r l h) = goes (in-assoc r (listed-fewer n w l) (p .quiet))
+  keeps-dat (good (msg (plain i n q b)) e) (assoc T w t) (in-assoc r l h) = goes (in-assoc r l (p .inactivity))
+  keeps-dat (good (msg (sure i n q b)) e) (assoc T w t) (in-assoc r l h) = goes (in-assoc r l (p .inactivity))
+  keeps-dat (good (note k n i q b) e) (assoc T w t) (in-assoc r l h) = goes (in-assoc r (listed-fewer n w l) (p .inactivity))
 
   pub keeps-fin : (st : State) → Keeps s (on-fin s st)
   unfolding on-fin
@@ -279,7 +269,7 @@ module _ (s : Setup) (p : Positive s) where
   keeps-finOk b (multi T k t) x = refuses
   keeps-finOk b (assoc T w t) x = refuses
   keeps-finOk true (ending T w t) x = goes in-idle
-  keeps-finOk false (ending T w t) (in-ending r l h) = goes (in-assoc r l (p .quiet))
+  keeps-finOk false (ending T w t) (in-ending r l h) = goes (in-assoc r l (p .inactivity))
 
   pub keeps-abort : (n : ℕ) (st : State) → Keeps s (on-abort s n st)
   unfolding on-abort quiet-fall

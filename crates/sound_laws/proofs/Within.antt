@@ -203,9 +203,9 @@ module _ (v : Value) (e : soundOf v ≡ true) where
   unfolding soundOf
   state-part = both-right (keptSound v) (stateSound v) (both-right (idsSound (v .waiting) (v .count)) r₁ (both-right (setupSound v) r₂ e))
 
-  limits-part : withinLimits (v .start) (v .end) (v .quiet) (v .letters) ≡ true
+  limits-part : withinLimits (v .start) (v .end) (v .inactivity) (v .letters) ≡ true
   unfolding setupSound
-  limits-part = both-left (withinLimits (v .start) (v .end) (v .quiet) (v .letters)) (zeros (drop (v .letters) (v .name))) set-part
+  limits-part = both-left (withinLimits (v .start) (v .end) (v .inactivity) (v .letters)) (zeros (drop (v .letters) (v .name))) set-part
 
 -- what a picture's waiting list is
 waiting-listed : (w : List ℕ) → idsSound (padded 8 w) (length w) ≡ true → Listed 8 w
@@ -305,7 +305,7 @@ sound-limited s (assoc a w t) e = limits-part (picture s (assoc a w t)) e
 pub record Positive (s : Setup) : Type 0 where
   pub start : 0 < s .start-limit
   pub finish : 0 < s .end-limit
-  pub quiet : 0 < s .inactivity-limit
+  pub inactivity : 0 < s .inactivity-limit
 
 pub positive : (s : Setup) → Limited s → Positive s
 unfolding withinLimits
@@ -316,5 +316,5 @@ positive s e =
     record {
       start = ltb-true 0 (s .start-limit) (both-left (ltb 0 (s .start-limit)) (both (ltb 0 (s .end-limit)) (both (ltb 0 (s .inactivity-limit)) n)) e);
       finish = ltb-true 0 (s .end-limit) (both-left (ltb 0 (s .end-limit)) (both (ltb 0 (s .inactivity-limit)) n) e₂);
-      quiet = ltb-true 0 (s .inactivity-limit) (both-left (ltb 0 (s .inactivity-limit)) n e₃);
+      inactivity = ltb-true 0 (s .inactivity-limit) (both-left (ltb 0 (s .inactivity-limit)) n e₃);
     }

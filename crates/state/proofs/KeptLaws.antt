@@ -16,10 +16,10 @@ use Rattle.frame.specs.Reading.{readingOf}
 use Rattle.frame.specs.Decoding.{messageAt, heldAt, twoOctets}
 use Rattle.octets.specs.Choice.{both}
 use Rattle.book.specs.Book.{Frame, good}
-use Rattle.book.specs.View.{needed, readingIn}
+use Rattle.book.specs.View.{needed, readingIn, frameAt}
 use Rattle.book.specs.Sound.{zeros, differ, idsSound, limitOf, keptReads, keptGood, keptNone, keptSound, stateSound, idleSound, busySound}
 use Rattle.book.specs.declared.Unit.{Unit as Value}
-use Rattle.book.proofs.Views.{frameAt, faulty-reading, whole-reading, plain-view, sure-view, note-view}
+use Rattle.book.proofs.Views.{faulty-reading, whole-reading, plain-view, sure-view, note-view}
 use Rattle.state.proofs.Scan.{to-end}
 
 -- ---- the kept frame
@@ -84,9 +84,9 @@ unfolding idsSound
 ids-are w n e h p q t = t ∙ rw (le-leb n 8 h, p, q, to-end w n 8 e)
 
 module _ (u : Value) where
-  pub limit-quiet : u .state ≡ 4 → u .quiet ≡ limitOf u
+  pub limit-inactivity : u .state ≡ 4 → u .inactivity ≡ limitOf u
   unfolding limitOf
-  limit-quiet e = rw (eq-eqb (u .state) 4 e)
+  limit-inactivity e = rw (eq-eqb (u .state) 4 e)
 
   pub limit-end : (u .state ≡ 4 → ⊥) → u .state ≡ 3 → u .end ≡ limitOf u
   unfolding limitOf

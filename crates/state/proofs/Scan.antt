@@ -8,7 +8,8 @@ use native.Mathlib.Omega.{arith}
 use borrow.Author.Tests.{eq-eqb, ne-eqb}
 use lib.ListN.{length, take, drop, getD, length-drop, drop-of-length-le}
 use lib.Seq.{drop-cons, take-all}
-use Rattle.book.specs.Sound.{zeros, member, differ}
+use Rattle.book.specs.Sound.{zeros, differ}
+use Rattle.book.specs.Book.{waits}
 
 pub at-end : {B : Type 0} (f : List ℕ → B) (s : List ℕ) (i : ℕ) → length s ≤ i → f (drop i s) ≡ f []
 at-end f s i h = rw (drop-of-length-le s {i = i} h)
@@ -48,31 +49,31 @@ zeros-past s a n e h = sym (at-end zeros s a (omega arith))
 
 -- ---- an entry is there
 
-pub member-stop : (s : List ℕ) (y i : ℕ) → i < length s → getD s i 0 ≡ y → member y (drop i s) ≡ member y s → true ≡ member y s
-member-stop s y i h n e =
-    let z : member y (drop i s) ≡ true = rw (at-next (member y) s i h, eq-eqb (getD s i 0) y n) in
+pub waits-stop : (s : List ℕ) (y i : ℕ) → i < length s → getD s i 0 ≡ y → waits y (drop i s) ≡ waits y s → true ≡ waits y s
+waits-stop s y i h n e =
+    let z : waits y (drop i s) ≡ true = rw (at-next (waits y) s i h, eq-eqb y (getD s i 0) (sym n)) in
     sym z ∙ e
 
-pub member-go : (s : List ℕ) (y i : ℕ) → i < length s → (getD s i 0 ≡ y → ⊥) → member y (drop i s) ≡ member y s → member y (drop (i + 1) s) ≡ member y s
-member-go s y i h n e =
-    let z : member y (drop (i + 1) s) ≡ member y (drop i s) = rw (at-next (member y) s i h, ne-eqb (getD s i 0) y n) in
+pub waits-go : (s : List ℕ) (y i : ℕ) → i < length s → (getD s i 0 ≡ y → ⊥) → waits y (drop i s) ≡ waits y s → waits y (drop (i + 1) s) ≡ waits y s
+waits-go s y i h n e =
+    let z : waits y (drop (i + 1) s) ≡ waits y (drop i s) = rw (at-next (waits y) s i h, ne-eqb y (getD s i 0) (λ q. n (sym q))) in
     z ∙ e
 
-pub member-end : (s : List ℕ) (y i : ℕ) → length s ≤ i → member y (drop i s) ≡ member y s → false ≡ member y s
-member-end s y i h e = sym (at-end (member y) s i h) ∙ e
+pub waits-end : (s : List ℕ) (y i : ℕ) → length s ≤ i → waits y (drop i s) ≡ waits y s → false ≡ waits y s
+waits-end s y i h e = sym (at-end (waits y) s i h) ∙ e
 
 -- ---- no entry stands twice; r says whether an entry stands in the part after it
 
-module _ (s : List ℕ) (i : ℕ) (h : i < length s) {r : Bool} (m : r ≡ member (getD s i 0) (take (length s - (i + 1)) (drop (i + 1) s))) where
+module _ (s : List ℕ) (i : ℕ) (h : i < length s) {r : Bool} (m : r ≡ waits (getD s i 0) (take (length s - (i + 1)) (drop (i + 1) s))) where
   pub differ-stop : r ≡ true → differ (drop i s) ≡ differ s → false ≡ differ s
   differ-stop t e =
-      let q = of-part (member (getD s i 0)) s (i + 1) (length s) refl m t in
+      let q = of-part (waits (getD s i 0)) s (i + 1) (length s) refl m t in
       let z : differ (drop i s) ≡ false = rw (at-next differ s i h, q) in
       sym z ∙ e
 
   pub differ-go : r ≡ false → differ (drop i s) ≡ differ s → differ (drop (i + 1) s) ≡ differ s
   differ-go t e =
-      let q = of-part (member (getD s i 0)) s (i + 1) (length s) refl m t in
+      let q = of-part (waits (getD s i 0)) s (i + 1) (length s) refl m t in
       let z : differ (drop (i + 1) s) ≡ differ (drop i s) = rw (at-next differ s i h, q) in
       z ∙ e
 

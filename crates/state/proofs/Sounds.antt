@@ -82,7 +82,7 @@ module _ (u : Value) (s : soundOf u ≡ true) where
   n₁ = both (ltb 0 (u .letters)) (leb (u .letters) 32)
 
   abbrev n₂ : Bool
-  n₂ = both (ltb 0 (u .quiet)) n₁
+  n₂ = both (ltb 0 (u .inactivity)) n₁
 
   abbrev n₃ : Bool
   n₃ = both (ltb 0 (u .end)) n₂
@@ -95,11 +95,11 @@ module _ (u : Value) (s : soundOf u ≡ true) where
   letters =
       leb-true (u .letters) 32
       (right (ltb 0 (u .letters)) (leb (u .letters) 32)
-      (right (ltb 0 (u .quiet)) n₁ (right (ltb 0 (u .end)) n₂ (right (ltb 0 (u .start)) n₃ (left (both (ltb 0 (u .start)) n₃) z₁ setup)))))
+      (right (ltb 0 (u .inactivity)) n₁ (right (ltb 0 (u .end)) n₂ (right (ltb 0 (u .start)) n₃ (left (both (ltb 0 (u .start)) n₃) z₁ setup)))))
 
   name-zero : z₁ ≡ true
   unfolding setupSound
-  name-zero = right (withinLimits (u .start) (u .end) (u .quiet) (u .letters)) z₁ setup
+  name-zero = right (withinLimits (u .start) (u .end) (u .inactivity) (u .letters)) z₁ setup
 
   abbrev i₁ : Bool
   i₁ = zeros (drop (u .count) (u .waiting))
@@ -201,7 +201,7 @@ small-part (suc n) (x ∷ s) h (suc i) = small-part n s (λ j. h (suc j)) i
 -- a unit from its fields
 built : (u : Value) {n w f : List ℕ} {a : Terms} {k t l m o : ℕ} → u .name ≡ n → u .waiting ≡ w → u .kept ≡ f → u .state ≡ k → u .elapsed ≡ t → u .terms ≡ a
     → u .letters ≡ l → u .count ≡ m → u .octets ≡ o
-    → u ≡ record { name = n; waiting = w; kept = f; state = k; start = u .start; end = u .end; quiet = u .quiet; elapsed = t; terms = a; letters = l; count = m; octets = o }
+    → u ≡ record { name = n; waiting = w; kept = f; state = k; start = u .start; end = u .end; inactivity = u .inactivity; elapsed = t; terms = a; letters = l; count = m; octets = o }
 built u e₁ e₂ e₃ e₄ e₅ e₆ e₇ e₈ e₉ = rw (← e₁, ← e₂, ← e₃, ← e₄, ← e₅, ← e₆, ← e₇, ← e₈, ← e₉)
 
 module _ (u : Value) (s : soundOf u ≡ true) (wide : length (u .name) ≡ 32) (eight : length (u .waiting) ≡ 8) (long : length (u .kept) ≡ 554)

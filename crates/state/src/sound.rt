@@ -3,10 +3,10 @@ ghost use mathlib.Core.Path.{_≡_};
 ghost use Prim.Native.Nat.{_≤_};
 ghost use lib.ListN.{length, take, drop};
 ghost use Rattle.octets.specs.Choice as Choice;
-ghost use Rattle.book.specs.Sound.{zeros, member, differ, withinLimits, setupSound, idsSound, limitOf, idleSound, busySound, keptNone, keptReads, keptGood, keptSound, stateSound, soundOf};
-ghost use Rattle.book.specs.Book.{good};
-ghost use Rattle.book.specs.View.{readingIn};
-ghost use Rattle.book.proofs.Views.{Reads, frameAt};
+ghost use Rattle.book.specs.Sound.{zeros, differ, withinLimits, setupSound, idsSound, limitOf, idleSound, busySound, keptNone, keptReads, keptGood, keptSound, stateSound, soundOf};
+ghost use Rattle.book.specs.Book.{good, waits};
+ghost use Rattle.book.specs.View.{readingIn, frameAt};
+ghost use Rattle.book.specs.Ready.{Reads};
 use book::Unit;
 use frame::Header;
 use frame::Reading;
@@ -38,7 +38,7 @@ fn clear_ids(s: &[u16]) -> bool
 }
 
 fn among(s: &[u16], id: u16) -> bool
-    ensures { λ r. ⌜ r ≡ member id (now (s .entry)) ⌝ }
+    ensures { λ r. ⌜ r ≡ waits id (now (s .entry)) ⌝ }
 {
     let mut i = 0;
     while i < s.len() {
@@ -79,11 +79,11 @@ fn either(a: bool, b: bool) -> bool
 }
 
 // The limits of setup: 1..65,535 ticks each, a name of 1..32 octets.
-pub fn within_limits(start: u16, end: u16, quiet: u16, letters: usize) -> bool
-    ensures { λ r. ⌜ r ≡ withinLimits start end quiet letters ⌝ }
+pub fn within_limits(start: u16, end: u16, inactivity: u16, letters: usize) -> bool
+    ensures { λ r. ⌜ r ≡ withinLimits start end inactivity letters ⌝ }
 {
     let named = both(0 < letters, letters <= 32);
-    both(0 < start, both(0 < end, both(0 < quiet, named)))
+    both(0 < start, both(0 < end, both(0 < inactivity, named)))
 }
 
 // The octets of a name after its first n are 0.
@@ -101,7 +101,7 @@ fn setup_sound(u: Unit) -> bool
 {
     let name = u.name;
     let rest = rest_clear(name, u.letters);
-    let within = within_limits(u.start, u.end, u.quiet, u.letters);
+    let within = within_limits(u.start, u.end, u.inactivity, u.letters);
     both(within, rest)
 }
 
@@ -122,7 +122,7 @@ pub fn limit_of(u: Unit) -> u16
 {
     let s = u.state;
     if s == 4 {
-        return u.quiet;
+        return u.inactivity;
     }
     if s == 3 {
         return u.end;

@@ -28,15 +28,15 @@ use Rattle.book.specs.declared.Turn.{Turn}
 use Rattle.book.specs.declared.Verdict.the-variants.{Done}
 use Rattle.book.specs.declared.Found.{Found}
 use Rattle.book.specs.declared.Found.the-variants.{Place, Nowhere}
-use Rattle.book.specs.Book.{Body, Msg, plain, sure, Kind, ok, not-ok, unknown, Frame, msg, note, good, bad, Out, give, answer, send, dat, seen, State, idle, single, multi, ending, assoc, Setup, Outcome, done, same, waitingOf, without, without-in, ack, ack-body, with-seen, noted, left-waiting, result-of, fall, on-dat}
-use Rattle.book.specs.View.{needed, bodyIn, viewed, readingIn, frameOctets, msgOctets}
+use Rattle.book.specs.Book.{Body, Msg, plain, sure, Kind, ok, not-ok, unknown, Frame, msg, note, good, bad, Out, give, answer, send, dat, seen, State, idle, single, multi, ending, assoc, Setup, Outcome, done, waitingOf, without, without-in, ack, ack-body, with-seen, noted, left-waiting, result-of, fall, on-dat}
+use Rattle.book.specs.View.{needed, bodyIn, viewed, readingIn, frameOctets, msgOctets, frameAt, kindFor}
 use Rattle.book.specs.Lines.{lineOf, termsOctets, resultNumber}
 use Rattle.book.specs.Turns.{takes}
 use Rattle.book.specs.Waiting.{placeOf}
 use Rattle.book.specs.Picture.{picture, setupOf, stateOf, idsIn}
 use Rattle.book.specs.Step.{Turned}
-use Rattle.book.specs.Ready.{Ready}
-use Rattle.book.proofs.Views.{Reads, frameAt, know, view-octets, faulty-reading, whole-reading, plainIn, sureIn, noteIn, kindFor, plain-view, sure-view, note-view, plain-octets, sure-octets}
+use Rattle.book.specs.Ready.{Ready, Reads}
+use Rattle.book.proofs.Views.{know, view-octets, faulty-reading, whole-reading, plainIn, sureIn, noteIn, plain-view, sure-view, note-view, plain-octets, sure-octets}
 use Rattle.unit.specs.declared.lines.Pen.{Pen}
 use Rattle.unit.specs.declared.lines.Note.{Note}
 use Rattle.unit.specs.Pens.{Laid}
@@ -105,7 +105,7 @@ cut-step false y w Nowhere = refl
 cut-step false y w (Place i) = refl
 
 without-found : (x : ℕ) (w : List ℕ) → without x w ≡ cut-out w (placeOf x 0 w)
-unfolding without same cut-out
+unfolding without cut-out
 without-found x [] = refl
 without-found x (y ∷ w) = rw (without-found x w, place-bump x 0 w) (cut-step (eqb x y) y w (placeOf x 0 w))
 

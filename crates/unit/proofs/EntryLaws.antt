@@ -31,7 +31,8 @@ use Rattle.book.specs.Sound.{soundOf, withinLimits}
 use Rattle.book.specs.Step.{does, orNothing, step, Turned, turnOf, setUp, blank}
 use Rattle.book.specs.Ready.{Ready}
 use Rattle.unit.specs.Moves.{made}
-use Rattle.unit.specs.Saying.{columnOf, userDataOf}
+use Rattle.unit.specs.Saying.{columnOf}
+use Rattle.unit.specs.UserData.{userDataOf}
 use Rattle.unit.proofs.Moved.{not-taken, made-is, padded-none}
 use Rattle.unit.proofs.Gave.{turned-as}
 
@@ -170,18 +171,18 @@ both-right : (a b : Bool) → both a b ≡ true → b ≡ true
 both-right true b e = e
 both-right false b e = not-taken e
 
-pub within-name : (start end quiet letters : ℕ) → withinLimits start end quiet letters ≡ true → letters ≤ 32
+pub within-name : (start end inactivity letters : ℕ) → withinLimits start end inactivity letters ≡ true → letters ≤ 32
 unfolding withinLimits
-within-name start end quiet letters e =
-    leb-true letters 32 (both-right (ltb 0 letters) _ (both-right (ltb 0 quiet) _ (both-right (ltb 0 end) _ (both-right (ltb 0 start) _ e))))
+within-name start end inactivity letters e =
+    leb-true letters 32 (both-right (ltb 0 letters) _ (both-right (ltb 0 inactivity) _ (both-right (ltb 0 end) _ (both-right (ltb 0 start) _ e))))
 
-module _ (start end quiet : ℕ) (name : List ℕ) {b : Bool} (q : b ≡ withinLimits start end quiet (length name)) where
-  pub set-up : b ≡ true → {letters : List ℕ} {u : Value} {r : Turn} → letters ≡ padded 32 name → u ≡ made start end quiet letters (length name) →
-      r ≡ record { unit = u; verdict = Done 0 0 } → r ≡ setUp start end quiet name
+module _ (start end inactivity : ℕ) (name : List ℕ) {b : Bool} (q : b ≡ withinLimits start end inactivity (length name)) where
+  pub set-up : b ≡ true → {letters : List ℕ} {u : Value} {r : Turn} → letters ≡ padded 32 name → u ≡ made start end inactivity letters (length name) →
+      r ≡ record { unit = u; verdict = Done 0 0 } → r ≡ setUp start end inactivity name
   unfolding setUp
-  set-up z el eu er = er ∙ rw (sym q ∙ z) (ap (λ v. record { unit = v; verdict = Done 0 0 }) (eu ∙ ap (λ l. made start end quiet l (length name)) el ∙ made-is start end quiet name))
+  set-up z el eu er = er ∙ rw (sym q ∙ z) (ap (λ v. record { unit = v; verdict = Done 0 0 }) (eu ∙ ap (λ l. made start end inactivity l (length name)) el ∙ made-is start end inactivity name))
 
-  pub not-set : b ≡ false → {u : Value} {r : Turn} → u ≡ blank → r ≡ turnOf u (refused 7) → r ≡ setUp start end quiet name
+  pub not-set : b ≡ false → {u : Value} {r : Turn} → u ≡ blank → r ≡ turnOf u (refused 7) → r ≡ setUp start end inactivity name
   unfolding setUp turnOf
   not-set z eu er = er ∙ rw (sym q ∙ z, eu)
 

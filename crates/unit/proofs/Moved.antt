@@ -1,20 +1,16 @@
 -- What the moves make of the picture of a state. Closed by cases on the state.
-use Prim.Native.Nat.{ℕ, zero, suc, _+_, _-_, _*_, _<_, _≤_, _/_, _%_}
-use mathlib.Core.Path.{_≡_, refl, ap, sym, _∙_}
-use mathlib.Core.Bool.{Bool, true, false, not}
-use mathlib.Core.List.{List, [], _∷_, _++_, map, append-assoc, append-nil}
+use Prim.Native.Nat.{ℕ, zero, suc, _+_, _-_, _<_, _≤_}
+use mathlib.Core.Path.{_≡_}
+use mathlib.Core.Bool.{true, false}
+use mathlib.Core.List.{List, [], _∷_, _++_, append-assoc}
 use native.Mathlib.Omega.{arith}
 use native.Mathlib.Nat.{sub-zero}
-use borrow.Author.Tests.{eq-eqb, ne-eqb}
-use lib.Dec.{eqb}
-use native.Mathlib.Numerals.{add-one}
-use lib.ListN.{getD, drop-of-length-le, length, take, drop, set, replicate, length-append, length-drop, length-replicate, replicate-append-replicate}
-use lib.Seq.{drop-cons, take-append-seam, take-append-le, drop-append-le, length-take-le, set-append-seam, sets, sets-eq}
+use lib.ListN.{length, take, drop, set, replicate, length-append, length-drop, length-replicate, replicate-append-replicate}
+use lib.Seq.{take-append-seam, take-append-le, drop-append-le, length-take-le, set-append-seam, sets, sets-eq}
 use native.Mathlib.Nat.{zero-add, not-suc-le-zero}
 use borrow.Author.Tests.{lt-ltb}
 use Rattle.book.specs.Book.{Msg, State, idle, single, multi, ending, assoc, Setup, idsOf, waitingOf}
-use Rattle.book.specs.Picture.{noTerms, padded, pictured, picture, idsIn}
-use Rattle.book.specs.Turns.{takes}
+use Rattle.book.specs.Picture.{padded, picture, idsIn}
 use Rattle.book.specs.Waiting.{closed}
 use Rattle.book.specs.View.{msgOctets}
 use Rattle.book.specs.declared.Terms.{Terms}
@@ -36,6 +32,7 @@ drop-replicate zero n h = rw (sub-zero n)
 drop-replicate (suc k) zero h = absurd (not-suc-le-zero h)
 drop-replicate (suc k) (suc n) h = let e : suc n - suc k ≡ n - k = omega arith in rw e (drop-replicate k n (omega arith))
 
+-- octets put at the front of an array of 0
 pub padded-sets : (n : ℕ) (s : List ℕ) → length s ≤ n → sets (replicate n 0) 0 s ≡ padded n s
 unfolding padded
 padded-sets n s h =
@@ -176,14 +173,6 @@ pub begun-assoc : (s : Setup) (T : Terms) (k : Msg) (t : ℕ) (u : Value) → u 
 unfolding entered
 begun-assoc s T k t u e = rw (e, padded-none 554)
 
-pub made-is : (start end quiet : ℕ) (name : List ℕ) →
-    made start end quiet (padded 32 name) (length name) ≡ picture (record { name = name; start-limit = start; end-limit = end; inactivity-limit = quiet }) idle
-made-is start end quiet name = rw (padded-none 8, padded-none 554)
-
--- ---- a frame or a name, put into an array of its own octet by octet
-
-pub own-step : (l : List ℕ) (i : ℕ) (s : List ℕ) → i < length s → sets (set l i (getD s i 0)) (i + 1) (drop (i + 1) s) ≡ sets l i (drop i s)
-own-step l i s h = rw (add-one, drop-cons s i 0 h)
-
-pub own-end : (l : List ℕ) (i n : ℕ) (s : List ℕ) → length s ≤ i → length s ≤ n → sets l i (drop i s) ≡ sets (replicate n 0) 0 s → l ≡ padded n s
-own-end l i n s h m e = rw (drop-of-length-le s {i = i} h) at e ∙ padded-sets n s m
+pub made-is : (start end inactivity : ℕ) (name : List ℕ) →
+    made start end inactivity (padded 32 name) (length name) ≡ picture (record { name = name; start-limit = start; end-limit = end; inactivity-limit = inactivity }) idle
+made-is start end inactivity name = rw (padded-none 8, padded-none 554)

@@ -21,9 +21,8 @@ use Rattle.frame.specs.declared.OneOctet.the-variants.{NoOctet, Octet}
 use Rattle.frame.proofs.WriterLaws.{encode-is}
 use Rattle.frame.proofs.BareLaws.{bare-length}
 use Rattle.book.specs.Book.{Kind, ok, not-ok, unknown}
-use Rattle.book.specs.View.{frameOctets, frameMessage, kindNumber}
+use Rattle.book.specs.View.{frameOctets, frameMessage, kindNumber, kindFor}
 use Rattle.book.specs.Lines.{laid}
-use Rattle.book.proofs.Views.{kindFor}
 use Rattle.unit.specs.Pens.{Laid}
 use Rattle.unit.specs.Notes.{noteFrame, noteOctets, answerLine}
 use Rattle.unit.specs.declared.lines.Pen.{Pen}
@@ -49,9 +48,6 @@ pub laid-as : {b a : List ℕ} {p q : Pen} {xs ys : List (List ℕ)} → xs ≡ 
 laid-as e l = rw e at l
 
 -- ---- one line: a head with the line's length in front, then the rest of it
-
-pub put-made : (src b a : List ℕ) (at : ℕ) → a ≡ sets b at src → Put b at src a (at + length src)
-put-made src b a at e = record { held = e; place = refl }
 
 pub head-put : (head : List ℕ) (n at : ℕ) {b b1 a : List ℕ} {j r : ℕ} → length head + n < 65536 →
     Put b at ((length head + n) / 256 % 256 ∷ (length head + n) % 256 ∷ []) b1 j → Put b1 j head a r →

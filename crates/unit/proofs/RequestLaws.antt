@@ -1,7 +1,7 @@
 -- 01 and 02: one law for each way out. Closed by cases on the state, and by the tests on the way.
 use Prim.Native.Nat.{ℕ, zero, suc, _+_, _-_, _<_, _≤_}
 use mathlib.Core.Path.{_≡_, refl, ap, sym, _∙_, subst}
-use mathlib.Core.Bool.{Bool, true, false, not, _||_}
+use mathlib.Core.Bool.{Bool, true, false, not}
 use mathlib.Core.Option.{Option, none, some}
 use mathlib.Core.List.{List, [], _∷_, _++_, append-nil}
 use native.Mathlib.Omega.{arith}
@@ -9,7 +9,7 @@ use borrow.Author.Tests.{eq-eqb, ne-eqb, le-leb, lt-leb}
 use lib.Dec.{eqb, leb}
 use lib.ListN.{length, take}
 use lib.Seq.{length-take-le}
-use Rattle.octets.specs.Choice.{pick}
+use Rattle.octets.specs.Choice.{pick, either}
 use Rattle.frame.specs.declared.Header.{Header}
 use Rattle.frame.specs.declared.Fault.{Fault}
 use Rattle.frame.specs.declared.TwoOctets.{TwoOctets}
@@ -28,16 +28,15 @@ use Rattle.book.specs.declared.Turn.{Turn}
 use Rattle.book.specs.declared.Verdict.the-variants.{Done}
 use Rattle.book.specs.declared.Found.{Found}
 use Rattle.book.specs.declared.Found.the-variants.{Place, Nowhere}
-use Rattle.book.specs.Book.{Body, Msg, plain, sure, Frame, msg, note, Reading, good, bad, Out, send, start, dat, State, idle, single, multi, ending, assoc, Setup, Outcome, refused, done, same, cond, same-terms, settled, idsOf, waitingOf, waits, full, bodyOf, vet, bar-confirmed, bar, on-single, on-multi, on-shot, on-vetted, on-request}
-use Rattle.book.specs.Book as Book
-use Rattle.book.specs.View.{needed, bodyIn, viewedAs, viewed, readingIn, frameOctets, msgOctets, frameMessage}
+use Rattle.book.specs.Book.{Body, Msg, plain, sure, Frame, msg, note, Reading, good, bad, Out, send, start, dat, State, idle, single, multi, ending, assoc, Setup, Outcome, refused, done, same-terms, settled, idsOf, waitingOf, waits, full, bodyOf, vet, bar-confirmed, bar, on-single, on-multi, on-shot, on-vetted, on-request}
+use Rattle.book.specs.View.{needed, bodyIn, viewedAs, viewed, readingIn, frameOctets, msgOctets, frameMessage, frameAt, kindFor}
 use Rattle.book.specs.Lines.{lineOf, termsOctets}
 use Rattle.book.specs.Turns.{takes}
 use Rattle.book.specs.Waiting.{placeOf}
 use Rattle.book.specs.Picture.{picture, setupOf, stateOf, idsIn, msgIn}
 use Rattle.book.specs.Step.{Turned, turnOf}
-use Rattle.book.specs.Ready.{Ready}
-use Rattle.book.proofs.Views.{Reads, reads-made, frameAt, know, view-octets, faulty-reading, whole-reading, plainIn, sureIn, noteIn, kindFor, plain-view, sure-view, note-view}
+use Rattle.book.specs.Ready.{Ready, Reads}
+use Rattle.book.proofs.Views.{reads-made, know, view-octets, faulty-reading, whole-reading, plainIn, sureIn, noteIn, plain-view, sure-view, note-view}
 use Rattle.unit.specs.declared.lines.Pen.{Pen}
 use Rattle.unit.specs.Pens.{Laid}
 use Rattle.unit.specs.Moves.{advanced, entered, keeping, appended, joined}
@@ -49,24 +48,24 @@ use Rattle.unit.proofs.Gave.{Goes, went, refuses, turned-as}
 
 module _ (t : Terms) where
   pub settle-zero : t .rer ≡ 0 → _≡_ {A = Terms} (record { class = t .class; priority = t .priority; rer = 1 }) (settled t)
-  unfolding settled same cond
+  unfolding settled
   settle-zero e = rw (eq-eqb (t .rer) 0 e)
 
   pub settle-other : (t .rer ≡ 0 → ⊥) → t ≡ settled t
-  unfolding settled same cond
+  unfolding settled
   settle-other e = rw (ne-eqb (t .rer) 0 e)
 
 module _ (a b : Terms) where
   pub alike-class : (a .class ≡ b .class → ⊥) → false ≡ same-terms a b
-  unfolding same-terms same Book.both
+  unfolding same-terms
   alike-class n = rw (ne-eqb (a .class) (b .class) n)
 
   pub alike-priority : a .class ≡ b .class → (a .priority ≡ b .priority → ⊥) → false ≡ same-terms a b
-  unfolding same-terms same Book.both
+  unfolding same-terms
   alike-priority e n = rw (eq-eqb (a .class) (b .class) e, ne-eqb (a .priority) (b .priority) n)
 
   pub alike-rer : a .class ≡ b .class → a .priority ≡ b .priority → eqb (a .rer) (b .rer) ≡ same-terms a b
-  unfolding same-terms same Book.both
+  unfolding same-terms
   alike-rer e f = rw (eq-eqb (a .class) (b .class) e, eq-eqb (a .priority) (b .priority) f)
 
 -- ---- the message of a request
@@ -152,7 +151,7 @@ module _ (s : Setup) (u : Value) where
 
   -- the refusal that a message meets in Associated
   abbrev barred : Terms → Msg → Option ℕ
-  barred a m = cond (same-terms (settled a) (u .terms)) (bar-confirmed m (idsIn u)) (some 3)
+  barred a m = pick (same-terms (settled a) (u .terms)) (bar-confirmed m (idsIn u)) (some 3)
 
   bar-is : (st : State) → u ≡ picture s st → u .state ≡ 4 → (a : Terms) (m : Msg) → bar a m st ≡ barred a m
   unfolding bar
@@ -160,7 +159,7 @@ module _ (s : Setup) (u : Value) where
   bar-is (single T w t) e n a m = let z : _≡_ {A = ℕ} 1 4 = rw e at n in absurd (omega arith)
   bar-is (multi T k t) e n a m = let z : _≡_ {A = ℕ} 2 4 = rw e at n in absurd (omega arith)
   bar-is (ending T w t) e n a m = let z : _≡_ {A = ℕ} 3 4 = rw e at n in absurd (omega arith)
-  bar-is (assoc T w t) e n a m = rw e (ap (λ l. cond (same-terms (settled a) T) (bar-confirmed m l) (some 3)) (sym (Rattle.unit.proofs.Moved.take-padded 8 w)))
+  bar-is (assoc T w t) e n a m = rw e (ap (λ l. pick (same-terms (settled a) T) (bar-confirmed m l) (some 3)) (sym (Rattle.unit.proofs.Moved.take-padded 8 w)))
 
   refused-is : (st : State) → u ≡ picture s st → u .state ≡ 4 → (k : ℕ) (a : Terms) (m : Msg) → on-multi (some k) a m st ≡ refused k
   unfolding on-multi
@@ -229,15 +228,15 @@ found : Found → Bool
 found Nowhere = false
 found (Place i) = true
 
-found-pick : (b : Bool) (i : ℕ) (f : Found) → found (pick b (Place i) f) ≡ b || found f
+found-pick : (b : Bool) (i : ℕ) (f : Found) → found (pick b (Place i) f) ≡ either b (found f)
 unfolding found
 found-pick true i f = refl
 found-pick false i f = refl
 
 waits-found : (x k : ℕ) (w : List ℕ) → waits x w ≡ found (placeOf x k w)
-unfolding waits same found
+unfolding found
 waits-found x k [] = refl
-waits-found x k (y ∷ w) = ap (λ b. eqb x y || b) (waits-found x (suc k) w) ∙ sym (found-pick (eqb x y) k (placeOf x (suc k) w))
+waits-found x k (y ∷ w) = ap (either (eqb x y)) (waits-found x (suc k) w) ∙ sym (found-pick (eqb x y) k (placeOf x (suc k) w))
 
 -- ---- the ways out
 
@@ -273,10 +272,9 @@ module _ {u : Value} (k : Ready u) {f : List ℕ} {h : Header} (w : Reads f h 0)
     module _ (n : u .state ≡ 4) where
       pub ask-3 : {t : Terms} {b : Bool} → t ≡ settled a → b ≡ same-terms t (u .terms) → not b ≡ true →
           on-multi (bar a (msgAt f h) (stateOf u)) a (msgAt f h) (stateOf u) ≡ refused 3
-      unfolding cond
       ask-3 et eb z =
           ap (λ o. on-multi o a M T)
-          (bar-is S u T (k .whole) n a M ∙ ap (λ y. cond y (bar-confirmed M (idsIn u)) (some 3)) (ap (λ y. same-terms y (u .terms)) (sym et) ∙ sym eb ∙ borrow.Author.Tests.not-true _ z))
+          (bar-is S u T (k .whole) n a M ∙ ap (λ y. pick y (bar-confirmed M (idsIn u)) (some 3)) (ap (λ y. same-terms y (u .terms)) (sym et) ∙ sym eb ∙ borrow.Author.Tests.not-true _ z))
           ∙ refused-is S u T (k .whole) n 3 a M
 
       pub same-made : {t : Terms} {b : Bool} → t ≡ settled a → b ≡ same-terms t (u .terms) → not b ≡ false → same-terms (settled a) (u .terms) ≡ true
@@ -284,8 +282,7 @@ module _ {u : Value} (k : Ready u) {f : List ℕ} {h : Header} (w : Reads f h 0)
 
       module _ (same : same-terms (settled a) (u .terms) ≡ true) where
         bar-same : bar a M T ≡ bar-confirmed M (idsIn u)
-        unfolding cond
-        bar-same = bar-is S u T (k .whole) n a M ∙ ap (λ y. cond y (bar-confirmed M (idsIn u)) (some 3)) same
+        bar-same = bar-is S u T (k .whole) n a M ∙ ap (λ y. pick y (bar-confirmed M (idsIn u)) (some 3)) same
 
         line-is : h .confirmation < 2 → (0x32 ∷ bareTo f (h .end)) ∷ [] ≡ said (send (dat (good (msg M) 0)) ∷ [])
         unfolding msgOctets frameOctets frameMessage
@@ -306,35 +303,33 @@ module _ {u : Value} (k : Ready u) {f : List ℕ} {h : Header} (w : Reads f h 0)
           unfolding idsOf messageAt
           id-is = ap idsOf (msg-sure f h c) ∙ ap (λ y. y ∷ []) (sym (er ∙ ap needed ei))
 
-          bar-found : bar a M T ≡ cond (found g) (some 4) (cond (leb 8 (length (idsIn u))) (some 5) none)
+          bar-found : bar a M T ≡ pick (found g) (some 4) (pick (leb 8 (length (idsIn u))) (some 5) none)
           unfolding bar-confirmed full messageAt
           bar-found =
               bar-same ∙ ap (λ m. bar-confirmed m (idsIn u)) (msg-sure f h c)
-              ∙ ap (λ y. cond y (some 4) (cond (leb 8 (length (idsIn u))) (some 5) none))
+              ∙ ap (λ y. pick y (some 4) (pick (leb 8 (length (idsIn u))) (some 5) none))
               (ap (λ y. waits y (idsIn u)) (sym (er ∙ ap needed ei)) ∙ waits-found id 0 (idsIn u) ∙ ap found (sym eg))
 
           pub ask-4 : {j : ℕ} → g ≡ Place j → on-multi (bar a (msgAt f h) (stateOf u)) a (msgAt f h) (stateOf u) ≡ refused 4
-          unfolding cond found
-          ask-4 e = ap (λ o. on-multi o a M T) (bar-found ∙ ap (λ y. cond (found y) (some 4) (cond (leb 8 (length (idsIn u))) (some 5) none)) e) ∙ refused-is S u T (k .whole) n 4 a M
+          unfolding found
+          ask-4 e = ap (λ o. on-multi o a M T) (bar-found ∙ ap (λ y. pick (found y) (some 4) (pick (leb 8 (length (idsIn u))) (some 5) none)) e) ∙ refused-is S u T (k .whole) n 4 a M
 
           module _ (e : g ≡ Nowhere) where
-            bar-full : bar a M T ≡ cond (leb 8 (u .count)) (some 5) none
-            unfolding cond found
+            bar-full : bar a M T ≡ pick (leb 8 (u .count)) (some 5) none
+            unfolding found
             bar-full =
-                bar-found ∙ ap (λ y. cond (found y) (some 4) (cond (leb 8 (length (idsIn u))) (some 5) none)) e
-                ∙ ap (λ y. cond (leb 8 y) (some 5) none) (length-take-le (u .count) (u .waiting) (omega arith))
+                bar-found ∙ ap (λ y. pick (found y) (some 4) (pick (leb 8 (length (idsIn u))) (some 5) none)) e
+                ∙ ap (λ y. pick (leb 8 y) (some 5) none) (length-take-le (u .count) (u .waiting) (omega arith))
 
             pub ask-5 : 8 ≤ u .count → on-multi (bar a (msgAt f h) (stateOf u)) a (msgAt f h) (stateOf u) ≡ refused 5
-            unfolding cond
-            ask-5 l = ap (λ o. on-multi o a M T) (bar-full ∙ ap (λ y. cond y (some 5) none) (le-leb 8 (u .count) l)) ∙ refused-is S u T (k .whole) n 5 a M
+            ask-5 l = ap (λ o. on-multi o a M T) (bar-full ∙ ap (λ y. pick y (some 5) none) (le-leb 8 (u .count) l)) ∙ refused-is S u T (k .whole) n 5 a M
 
             pub asked-next-sure : {v x : Value} {r : Turn} {before after : List ℕ} {p : Pen} → u .count < 8
                 → Laid before fresh ((0x32 ∷ bareTo f (h .end)) ∷ []) after p → v ≡ advanced u 4 0 → x ≡ appended v id
                 → r ≡ record { unit = x; verdict = Done (p .lines) (p .at) }
                 → Turned u (on-multi (bar a (msgAt f h) (stateOf u)) a (msgAt f h) (stateOf u)) before r after
-            unfolding cond
             asked-next-sure l y ev ex q =
-                turned-as (ap (λ o. on-multi o a M T) (bar-full ∙ ap (λ y. cond y (some 5) none) (lt-leb 8 (u .count) l)))
+                turned-as (ap (λ o. on-multi o a M T) (bar-full ∙ ap (λ y. pick y (some 5) none) (lt-leb 8 (u .count) l)))
                 (went (next-sure S u T (k .whole) n l a M id id-is) (ex ∙ ap (λ z. appended z id) ev) (line-is (omega arith)) y q)
 
 -- ---- by the turn table

@@ -23,13 +23,13 @@ use Rattle.book.specs.declared.Unit.{Unit as Value}
 use Rattle.book.specs.declared.Turn.{Turn}
 use Rattle.book.specs.declared.Verdict.the-variants.{Done}
 use Rattle.book.specs.Book.{Msg, Frame, msg, note, Reading, good, bad, Out, give, answer, send, reply, dat, cut, gone, State, idle, single, multi, ending, assoc, Setup, Outcome, refused, done, idsOf, waitingOf, bodyOf, ack, with-seen, fall, greet, first-contact, on-start, result-of, single-result, answered-by, refuse-all, begun, on-reply, local, unknown, uncertain}
-use Rattle.book.specs.View.{needed, bodyIn, viewedAs, viewed, readingIn, frameOctets, msgOctets, frameMessage}
+use Rattle.book.specs.View.{needed, bodyIn, viewedAs, viewed, readingIn, frameOctets, msgOctets, frameMessage, frameAt}
 use Rattle.book.specs.Lines.{lineOf, termsOctets, resultNumber}
 use Rattle.book.specs.Turns.{takes}
 use Rattle.book.specs.Picture.{picture, setupOf, stateOf, idsIn, padded}
 use Rattle.book.specs.Step.{Turned, orNothing}
-use Rattle.book.specs.Ready.{Ready}
-use Rattle.book.proofs.Views.{Reads, frameAt, view-octets, faulty-reading, whole-reading, plainIn, sureIn, noteIn, plain-view, sure-view, note-view, plain-octets, sure-octets}
+use Rattle.book.specs.Ready.{Ready, Reads}
+use Rattle.book.proofs.Views.{view-octets, faulty-reading, whole-reading, plainIn, sureIn, noteIn, plain-view, sure-view, note-view, plain-octets, sure-octets}
 use Rattle.unit.specs.declared.lines.Pen.{Pen}
 use Rattle.unit.specs.declared.lines.Note.{Note}
 use Rattle.unit.specs.declared.lines.Say.{Say}

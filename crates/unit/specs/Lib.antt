@@ -1,3 +1,4 @@
+pub mod UserData
 pub mod Pens
 pub mod Notes
 pub mod Moves

@@ -1,4 +1,5 @@
 -- What the code's small functions make of a unit: one move each.
+-- No public contract speaks of this file, only contracts of functions inside a crate: a reader of 01 may skip it.
 use Prim.Native.Nat.{ℕ, _+_, _-_}
 use mathlib.Core.List.{List, [], _∷_}
 use lib.ListN.{length, set, replicate}
@@ -18,7 +19,7 @@ advanced u s e = record {
   state = s;
   start = u .start;
   end = u .end;
-  quiet = u .quiet;
+  inactivity = u .inactivity;
   elapsed = e;
   terms = u .terms;
   letters = u .letters;
@@ -39,7 +40,7 @@ entered u s a = record {
   state = s;
   start = u .start;
   end = u .end;
-  quiet = u .quiet;
+  inactivity = u .inactivity;
   elapsed = 0;
   terms = a;
   letters = u .letters;
@@ -56,7 +57,7 @@ cleared u = record {
   state = 0;
   start = u .start;
   end = u .end;
-  quiet = u .quiet;
+  inactivity = u .inactivity;
   elapsed = 0;
   terms = noTerms;
   letters = u .letters;
@@ -73,7 +74,7 @@ keeping u f = record {
   state = u .state;
   start = u .start;
   end = u .end;
-  quiet = u .quiet;
+  inactivity = u .inactivity;
   elapsed = u .elapsed;
   terms = u .terms;
   letters = u .letters;
@@ -90,7 +91,7 @@ waitingWith u w n = record {
   state = u .state;
   start = u .start;
   end = u .end;
-  quiet = u .quiet;
+  inactivity = u .inactivity;
   elapsed = u .elapsed;
   terms = u .terms;
   letters = u .letters;
@@ -112,15 +113,15 @@ joined u [] = u
 joined u (i ∷ w) = appended u i
 
 -- a unit in Idle
-abbrev pub made : (start end quiet : ℕ) → (name : List ℕ) → (letters : ℕ) → Value
-made start end quiet name letters = record {
+abbrev pub made : (start end inactivity : ℕ) → (name : List ℕ) → (letters : ℕ) → Value
+made start end inactivity name letters = record {
   name = name;
   waiting = replicate 8 0;
   kept = replicate 554 0;
   state = 0;
   start = start;
   end = end;
-  quiet = quiet;
+  inactivity = inactivity;
   elapsed = 0;
   terms = noTerms;
   letters = letters;

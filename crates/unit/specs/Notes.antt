@@ -1,4 +1,5 @@
 -- The confirmations that the unit makes itself: acknowledgements and local answers.
+-- No public contract speaks of this file, only contracts of functions inside a crate: a reader of 01 may skip it.
 use Prim.Native.Nat.{ℕ}
 use mathlib.Core.List.{List, _∷_}
 use mathlib.Core.Bool.{Bool}
@@ -6,9 +7,8 @@ use mathlib.Core.Option.{none}
 use mathlib.Core.Path.{_≡_}
 use Rattle.frame.specs.declared.Header.{Header}
 use Rattle.frame.specs.Decoding.{octetIn, messageAt}
-use Rattle.book.specs.View.{needed, frameOctets}
+use Rattle.book.specs.View.{needed, frameOctets, kindFor}
 use Rattle.book.specs.Book.{Frame, note}
-use Rattle.book.proofs.Views.{kindFor}
 use Rattle.frame.specs.declared.OneOctet.the-variants.{NoOctet}
 use Rattle.unit.specs.declared.lines.Note.{Note}
 use Rattle.unit.specs.declared.lines.Say.{Say}

@@ -1,4 +1,5 @@
 -- Lines laid into the lent buffer, one after the other, by a pen: the place after them, and how many there are.
+-- No public contract speaks of this file, only contracts of functions inside a crate: a reader of 01 may skip it.
 use Prim.Native.Nat.{ℕ, _+_}
 use mathlib.Core.Path.{_≡_}
 use mathlib.Core.List.{List}

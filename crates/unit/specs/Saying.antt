@@ -1,23 +1,18 @@
 -- The rule book's lines as the functions of this crate lay them.
+-- No public contract speaks of this file, only contracts of functions inside a crate: a reader of 01 may skip it.
 use Prim.Native.Nat.{ℕ}
-use mathlib.Core.List.{List, [], _∷_, map}
+use mathlib.Core.List.{List, [], map}
 use mathlib.Core.Bool.{Bool, true, false}
-use lib.ListN.{drop}
 use Rattle.frame.specs.declared.Header.{Header}
-use Rattle.frame.specs.declared.Reading.{Reading as Answer}
-use Rattle.frame.specs.declared.Reading.the-variants.{Whole, Faulty}
-use Rattle.frame.specs.Reading.{readingOf}
-use Rattle.frame.specs.Decoding.{partAt}
 use Rattle.book.specs.declared.Event.{Event}
 use Rattle.book.specs.declared.Event.the-variants.{Malformed, Transfer, End, Tick, StartAsked, StartAnswered, Data, EndAsked, EndAnswered, Aborted, Dropped}
-use Rattle.book.specs.Events.{eventOf, frameFrom}
 use mathlib.Core.Option.{some}
 use Rattle.book.specs.declared.Terms.{Terms}
 use Rattle.book.specs.Book.{Msg, Frame, Setup, Outcome, first-contact, good, Out, State, idle, single, multi, ending, assoc, unsure, with-seen, waitingOf}
 use Rattle.book.specs.Lines.{lineOf}
 use Rattle.book.specs.Picture.{setupOf, stateOf, msgIn}
 use Rattle.book.specs.declared.Unit.{Unit as Value}
-use Rattle.book.proofs.Views.{frameAt}
+use Rattle.book.specs.View.{frameAt}
 use Rattle.unit.specs.declared.lines.Pen.{Pen}
 
 abbrev pub said : List Out → List (List ℕ)
@@ -64,11 +59,3 @@ columnOf EndAsked = 7
 columnOf (EndAnswered b) = 8
 columnOf Aborted = 9
 columnOf Dropped = 10
-
--- "can show the user data as the very octets of the received event"
-abbrev pub dataOf : List ℕ → Answer → List ℕ
-dataOf f (Whole h n) = partAt f (h .«user_data»)
-dataOf f (Faulty x) = []
-
-unfoldable pub userDataOf : (event : List ℕ) → List ℕ
-userDataOf ev = dataOf (drop (frameFrom (eventOf ev)) ev) (readingOf (drop (frameFrom (eventOf ev)) ev))

@@ -12,7 +12,8 @@ ghost use Rattle.book.specs.Step.{does, step, turnOf, Turned, setUp};
 ghost use Rattle.book.specs.Ready.{Ready};
 ghost use Rattle.book.specs.Picture.{padded};
 ghost use Rattle.unit.specs.Moves.{made};
-ghost use Rattle.unit.specs.Saying.{columnOf, userDataOf};
+ghost use Rattle.unit.specs.Saying.{columnOf};
+ghost use Rattle.unit.specs.UserData.{userDataOf};
 use book::Event;
 use book::Terms;
 use book::Turn;
@@ -141,17 +142,13 @@ fn name_of(name: &[u8]) -> [u8; 32]
     ensures { λ r. ⌜ r ≡ padded 32 (now (name .entry)) ⌝ }
 {
     let mut letters = [0u8; 32];
-    let mut i = 0;
-    while i < name.len() {
-        letters[i] = name[i];
-        i += 1;
-    }
+    octets::put(&mut letters, 0, name);
     letters
 }
 
 // A unit in Idle with this setup and this name.
-fn new_unit(start: u16, end: u16, quiet: u16, name: [u8; 32], letters: usize) -> Unit
-    ensures { λ r. ⌜ r ≡ made start end quiet name letters ⌝ }
+fn new_unit(start: u16, end: u16, inactivity: u16, name: [u8; 32], letters: usize) -> Unit
+    ensures { λ r. ⌜ r ≡ made start end inactivity name letters ⌝ }
 {
     let t = Terms {
         class: 0,
@@ -165,7 +162,7 @@ fn new_unit(start: u16, end: u16, quiet: u16, name: [u8; 32], letters: usize) ->
         state: 0,
         start: start,
         end: end,
-        quiet: quiet,
+        inactivity: inactivity,
         elapsed: 0,
         terms: t,
         letters: letters,
@@ -175,12 +172,12 @@ fn new_unit(start: u16, end: u16, quiet: u16, name: [u8; 32], letters: usize) ->
 }
 
 // A new unit: its limits in ticks, and its name. Refusal 7, and a unit with every number 0, where they are out of range.
-pub fn setup(start: u16, end: u16, quiet: u16, name: &[u8]) -> Turn
-    ensures { λ r. ⌜ r ≡ setUp start end quiet (now (name .entry)) ⌝ }
+pub fn setup(start: u16, end: u16, inactivity: u16, name: &[u8]) -> Turn
+    ensures { λ r. ⌜ r ≡ setUp start end inactivity (now (name .entry)) ⌝ }
 {
-    if sound::within_limits(start, end, quiet, name.len()) {
+    if sound::within_limits(start, end, inactivity, name.len()) {
         let letters = name_of(name);
-        let unit = new_unit(start, end, quiet, letters, name.len());
+        let unit = new_unit(start, end, inactivity, letters, name.len());
         return finished(unit, Pen { at: 0, lines: 0 });
     }
     let unit = new_unit(0, 0, 0, [0u8; 32], 0);

@@ -84,7 +84,8 @@ pub(crate) fn put_kept(out: &mut [u8], pen: Pen, kept: [u8; 554], n: usize) -> P
     }
 }
 
-fn bit_of(b: bool) -> u8
+// A bit as a number: the multiShot bit of a note, the confirmation that a request's frame has.
+pub(crate) fn bit_of(b: bool) -> u8
     ensures { λ r. ⌜ (r ≡ weight b 1) × (r ≤ 1) ⌝ }
 {
     if b { 1 } else { 0 }

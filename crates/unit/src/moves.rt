@@ -95,11 +95,7 @@ fn kept_of(frame: &[u8]) -> [u8; 554]
     ensures { λ r. ⌜ r ≡ padded 554 (now (frame .entry)) ⌝ }
 {
     let mut kept = [0u8; 554];
-    let mut i = 0;
-    while i < frame.len() {
-        kept[i] = frame[i];
-        i += 1;
-    }
+    octets::put(&mut kept, 0, frame);
     kept
 }
 

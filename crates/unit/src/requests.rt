@@ -3,15 +3,13 @@ ghost use mathlib.Core.Path.{_≡_};
 ghost use mathlib.Core.Bool.{true};
 ghost use Prim.Native.Nat.{_≤_, _<_};
 ghost use lib.ListN.{length};
-ghost use Rattle.frame.specs.Encoding.{weight};
 ghost use Rattle.book.specs.Book as Book;
 ghost use Rattle.book.specs.Turns.{takes};
 ghost use Rattle.book.specs.Book.{on-request, on-shot, on-single, on-multi, bar, idsOf, same-terms, settled};
 ghost use Rattle.book.specs.View.{readingIn};
 ghost use Rattle.book.specs.Picture.{stateOf};
 ghost use Rattle.book.specs.Step.{Turned};
-ghost use Rattle.book.specs.Ready.{Ready};
-ghost use Rattle.book.proofs.Views.{Reads};
+ghost use Rattle.book.specs.Ready.{Ready, Reads};
 ghost use Rattle.unit.specs.Moves.{joined};
 ghost use Rattle.unit.specs.Saying.{msgAt};
 use crate::finished;
@@ -149,13 +147,6 @@ fn on_vetted(u: Unit, a: Terms, frame: &[u8], h: Header, out: &mut [u8]) -> Turn
     refuse(u, 1)
 }
 
-// The confirmation that a request's frame has.
-fn wanted(confirmed: bool) -> u8
-    ensures { λ r. ⌜ (r ≡ weight confirmed 1) × (r < 2) ⌝ }
-{
-    if confirmed { 1 } else { 0 }
-}
-
 // 01, or (confirmed) 02.
 pub(crate) fn on_request(u: Unit, confirmed: bool, a: Terms, frame: &[u8], out: &mut [u8]) -> Turn
     requires { ⌜ (Ready u) × (1024 ≤ length (now out)) ⌝ }
@@ -169,7 +160,7 @@ pub(crate) fn on_request(u: Unit, confirmed: bool, a: Terms, frame: &[u8], out: 
         return refuse(u, 2);
     }
     let c = header.confirmation;
-    if c != wanted(confirmed) {
+    if c != lines::bit_of(confirmed) {
         return refuse(u, 2);
     }
     on_vetted(u, a, frame, header, out)

@@ -9,8 +9,8 @@ ghost use Rattle.book.specs.Book.{on-start, on-reply, first-contact, good, done
 ghost use Rattle.book.specs.Picture.{setupOf, stateOf};
 ghost use Rattle.book.specs.Turns.{takes};
 ghost use Rattle.book.specs.Step.{Turned, orNothing};
-ghost use Rattle.book.specs.Ready.{Ready};
-ghost use Rattle.book.proofs.Views.{Reads, frameAt};
+ghost use Rattle.book.specs.Ready.{Ready, Reads};
+ghost use Rattle.book.specs.View.{frameAt};
 ghost use Rattle.unit.specs.Saying.{greeted};
 use crate::data;
 use crate::ends;

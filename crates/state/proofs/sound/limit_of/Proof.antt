@@ -1,10 +1,10 @@
 -- `state::sound::limit_of` meets its contract. Closed by laws of KeptLaws, one for each way out.
-use Rattle.state.proofs.KeptLaws.{limit-quiet, limit-end, limit-start}
+use Rattle.state.proofs.KeptLaws.{limit-inactivity, limit-end, limit-start}
 use Rattle.state.proofs.sound.limit_of.Statement.{statement}
 use Rattle.state.proofs.sound.limit_of.Tie as tie
 
 returns : tie.Need-returns
-returns c = search limit-quiet
+returns c = search limit-inactivity
 
 returns-2 : tie.Need-returns-2
 returns-2 c = search limit-end

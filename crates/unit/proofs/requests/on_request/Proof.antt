@@ -28,23 +28,23 @@ refuse-requires-2 c κs = search needs
 returns-2 : tie.Need-returns-2
 returns-2 c = refuses (ask-extended (c .before .before .before .before .before .before .before .before .args .u) (c .before .before .before .before .before .before .before .before .args .confirmed) (c .before .before .before .before .before .before .before .before .args .a) (now (c .before .before .before .before .before .before .before .before .args .frame)) (c .before .before .before .before .before .read .ensures) (c .before .before .before .reading .given .1) (c .before .if1 .taken)) (c .refuse2 .ensures)
 
-wanted-requires : tie.Need-wanted-requires
-wanted-requires c κs = search needs
+bit-of-requires : tie.Need-bit-of-requires
+bit-of-requires c κs = search needs
 
 refuse-requires-3 : tie.Need-refuse-requires-3
 refuse-requires-3 c κs = search needs
 
 returns-3 : tie.Need-returns-3
-returns-3 c = refuses (ask-other (c .before .before .before .before .before .before .before .before .before .before .args .u) (c .before .before .before .before .before .before .before .before .before .before .args .confirmed) (c .before .before .before .before .before .before .before .before .before .before .args .a) (now (c .before .before .before .before .before .before .before .before .before .before .args .frame)) (c .before .before .before .before .before .before .before .read .ensures) (c .before .before .before .before .before .reading .given .1) (c .before .before .before .if1 .left) (c .before .before .wanted .ensures .0) (c .before .if2 .taken)) (c .refuse3 .ensures)
+returns-3 c = refuses (ask-other (c .before .before .before .before .before .before .before .before .before .before .args .u) (c .before .before .before .before .before .before .before .before .before .before .args .confirmed) (c .before .before .before .before .before .before .before .before .before .before .args .a) (now (c .before .before .before .before .before .before .before .before .before .before .args .frame)) (c .before .before .before .before .before .before .before .read .ensures) (c .before .before .before .before .before .reading .given .1) (c .before .before .before .if1 .left) (c .before .before .bit-of .ensures .0) (c .before .if2 .taken)) (c .refuse3 .ensures)
 
 on-vetted-requires : tie.Need-on-vetted-requires
-on-vetted-requires c κs = (c .before .before .before .before .before .before .before .before .before .before .pre .0, (reads-zero _ _ _ (c .before .before .before .before .before .before .before .read .ensures) (c .before .before .before .before .before .reading .given .1) (c .before .before .before .if1 .left) (λ j. omega (arith, c .before .before .before .before .before .before .before .before .before .shared-slice-known .given j)), (omega (arith, c .before .if2 .left, c .before .before .wanted .ensures .1), c .before .before .before .before .before .before .before .before .before .before .pre .1)))
+on-vetted-requires c κs = (c .before .before .before .before .before .before .before .before .before .before .pre .0, (reads-zero _ _ _ (c .before .before .before .before .before .before .before .read .ensures) (c .before .before .before .before .before .reading .given .1) (c .before .before .before .if1 .left) (λ j. omega (arith, c .before .before .before .before .before .before .before .before .before .shared-slice-known .given j)), (omega (arith, c .before .if2 .left, c .before .before .bit-of .ensures .1), c .before .before .before .before .before .before .before .before .before .before .pre .1)))
 
 same-length : tie.Need-same-length
 same-length c = search needs
 
 returns-4 : tie.Need-returns-4
-returns-4 c = ask-vetted (c .before .before .before .before .before .before .before .before .before .before .before .before .before .args .u) (c .before .before .before .before .before .before .before .before .before .before .before .before .before .args .confirmed) (c .before .before .before .before .before .before .before .before .before .before .before .before .before .args .a) (now (c .before .before .before .before .before .before .before .before .before .before .before .before .before .args .frame)) (c .before .before .before .before .before .before .before .before .before .before .read .ensures) (c .before .before .before .before .before .before .before .before .reading .given .1) (c .before .before .before .before .before .before .if1 .left) (c .before .before .before .before .before .wanted .ensures .0) (c .before .before .before .before .if2 .left) (c .before .before .before .before .before .wanted .ensures .1) (c .before .before .on-vetted .ensures)
+returns-4 c = ask-vetted (c .before .before .before .before .before .before .before .before .before .before .before .before .before .args .u) (c .before .before .before .before .before .before .before .before .before .before .before .before .before .args .confirmed) (c .before .before .before .before .before .before .before .before .before .before .before .before .before .args .a) (now (c .before .before .before .before .before .before .before .before .before .before .before .before .before .args .frame)) (c .before .before .before .before .before .before .before .before .before .before .read .ensures) (c .before .before .before .before .before .before .before .before .reading .given .1) (c .before .before .before .before .before .before .if1 .left) (c .before .before .before .before .before .bit-of .ensures .0) (c .before .before .before .before .if2 .left) (omega (arith, c .before .before .before .before .before .bit-of .ensures .1)) (c .before .before .on-vetted .ensures)
 
 pub on-request-spec : {M : Type 1} → statement M
-on-request-spec = tie.close (tie.spec read-requires enum-known-reading enum-told refuse-requires returns refuse-requires-2 returns-2 wanted-requires refuse-requires-3 returns-3 on-vetted-requires same-length returns-4)
+on-request-spec = tie.close (tie.spec read-requires enum-known-reading enum-told refuse-requires returns refuse-requires-2 returns-2 bit-of-requires refuse-requires-3 returns-3 on-vetted-requires same-length returns-4)
