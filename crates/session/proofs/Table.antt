@@ -45,7 +45,7 @@ output =
     ∷ []
 
 session : listing (text input) ≡ text output
-unfolding listing listed eventsFrom text setupIn answerTo eventIn leading digits valueOf digitOf digitsOf printed setUp withinLimits step turnOf does eventOf termsIn soundOf setupSound idsSound limitOf idleSound busySound keptNone keptGood keptSound stateSound padded stateOf viewed readingIn msgMessage frameMessage msgOctets frameOctets decode messageAt heldAt readingOf opened lacks fieldsOf octetsAt fixedAt senderAt dataAt extensionAt extensionsFrom restAt firstOctet frameOf encode Book.same Book.cond Book.both Book.same-terms Book.settled Book.idsOf Book.waitingOf Book.waits Book.full Book.without-in Book.without Book.bodyOf Book.with-seen Book.vet Book.bar-confirmed Book.bar Book.on-single Book.on-multi Book.on-shot Book.on-vetted Book.on-request Book.on-end Book.begun Book.on-reply Book.result-of Book.noted Book.left-waiting Book.on-dat Book.on-finOk Book.unsure
+unfolding listing listed eventsFrom text setupIn answerTo eventIn leading digits valueOf digitOf digitsOf printed setUp withinLimits step turnOf does eventOf termsIn soundOf setupSound idsSound limitOf idleSound busySound keptNone keptGood keptSound stateSound padded stateOf viewed readingIn msgMessage frameMessage msgOctets frameOctets decode messageAt heldAt readingOf opened lacks fieldsOf octetsAt fixedAt senderAt dataAt extensionAt extensionsFrom restAt firstOctet frameOf encode Book.same-terms Book.settled Book.idsOf Book.waitingOf Book.full Book.without-in Book.without Book.bodyOf Book.with-seen Book.vet Book.bar-confirmed Book.bar Book.on-single Book.on-multi Book.on-shot Book.on-vetted Book.on-request Book.on-end Book.begun Book.on-reply Book.result-of Book.noted Book.left-waiting Book.on-dat Book.on-finOk Book.unsure
 session = refl
 
 pub table : (listing (text input) ≡ text output) × (map (λ (r : List ℕ × Decoded). decode (r .0)) rows ≡ map (λ (r : List ℕ × Decoded). r .1) rows)

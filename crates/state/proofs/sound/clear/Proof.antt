@@ -1,27 +1,29 @@
--- `state::sound::clear` meets its contract. The invariant: what is left to test says what the whole says (Scan).
-use Rattle.state.proofs.Scan.{zeros-stop, zeros-go, zeros-end}
-use Rattle.book.specs.Sound.{zeros}
-use lib.ListN.{drop, length}
-use mathlib.Core.Path.{_≡_}
+-- `state::sound::clear` meets its contract. The invariant: the greatest so far is 0, and all that is left, says what the whole says (Scan).
 use Prim.Native.Nat.{_≤_, _-_}
+use mathlib.Core.Path.{_≡_}
+use lib.Dec.{eqb}
+use lib.ListN.{drop, length}
+use Rattle.octets.specs.Choice.{both}
+use Rattle.book.specs.Sound.{zeros}
+use Rattle.state.proofs.Scan.{rest-go, rest-end}
 use borrow.Author.Needs.{needs}
 use Rattle.state.proofs.sound.clear.Statement.{statement}
 use Rattle.state.proofs.sound.clear.Tie as tie
 
 abbrev Inv-loop : tie.InvT-loop
-Inv-loop s i₀ i = (i ≤ length s) × (zeros (drop i s) ≡ zeros s)
+Inv-loop s most₀ i₀ most i = (i ≤ length s) × (both (eqb most 0) (zeros (drop i s)) ≡ zeros s)
 
 abbrev μ-loop : tie.MeasureT-loop
-μ-loop s i₀ i = length s - i
+μ-loop s most₀ i₀ most i = length s - i
 
 loop-holds : tie.Need-loop-holds Inv-loop μ-loop
 loop-holds c = search needs
 
-shared-slice-read-if1 : tie.Need-shared-slice-read-if1 Inv-loop μ-loop
-shared-slice-read-if1 c = search needs
+shared-slice-read-greater : tie.Need-shared-slice-read-greater Inv-loop μ-loop
+shared-slice-read-greater c = search needs
 
-returns : tie.Need-returns Inv-loop μ-loop
-returns c = search (zeros-stop, needs)
+greater-requires : tie.Need-greater-requires Inv-loop μ-loop
+greater-requires c κs = search needs
 
 add-i : tie.Need-add-i Inv-loop μ-loop
 add-i c = search needs
@@ -30,10 +32,10 @@ loop-less : tie.Need-loop-less Inv-loop μ-loop
 loop-less c = search needs
 
 loop-again : tie.Need-loop-again Inv-loop μ-loop
-loop-again c = (search needs, search (zeros-go, needs))
+loop-again c = (search needs, rest-go (c .before .before .before .before .before .args .s .now) (c .before .before .before .loop .i) (c .before .before .before .loop .most) _ (search needs) (c .greater .ensures) (c .before .before .before .loop .inv .1))
 
-returns-2 : tie.Need-returns-2 Inv-loop μ-loop
-returns-2 c = search (zeros-end, needs)
+returns : tie.Need-returns Inv-loop μ-loop
+returns c = rest-end (c .before .before .before .args .s .now) (c .before .loop .i) (c .before .loop .most) (search needs) (c .before .loop .inv .1)
 
 pub clear-spec : {M : Type 1} → statement M
 clear-spec =
@@ -42,9 +44,9 @@ clear-spec =
     Inv-loop
     μ-loop
     loop-holds
-    shared-slice-read-if1
-    returns
+    shared-slice-read-greater
+    greater-requires
     add-i
     loop-less
     loop-again
-    returns-2)
+    returns)

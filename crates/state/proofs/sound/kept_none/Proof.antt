@@ -4,9 +4,6 @@ use borrow.Author.Needs.{needs}
 use Rattle.state.proofs.sound.kept_none.Statement.{statement}
 use Rattle.state.proofs.sound.kept_none.Tie as tie
 
-slice-aggregate-clear : tie.Need-slice-aggregate-clear
-slice-aggregate-clear c = search needs
-
 clear-requires : tie.Need-clear-requires
 clear-requires c κs = search needs
 
@@ -18,4 +15,4 @@ unfolding keptNone
 returns c = cc
 
 pub kept-none-spec : {M : Type 1} → statement M
-kept-none-spec = tie.close (tie.spec slice-aggregate-clear clear-requires both-requires returns)
+kept-none-spec = tie.close (tie.spec clear-requires both-requires returns)
