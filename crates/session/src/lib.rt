@@ -192,11 +192,11 @@ fn lines(
         if full(out.len(), fed.written) {
             return fed;
         }
-        let next = line_after(fed, input, event, laid, out);
-        if next.taken == fed.taken {
-            return next;
+        let before = fed.taken;
+        fed = line_after(fed, input, event, laid, out);
+        if fed.taken == before {
+            return fed;
         }
-        fed = next;
         left -= 1;
     }
     fed

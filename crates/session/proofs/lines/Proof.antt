@@ -1,8 +1,7 @@
 -- `session::lines` meets its contract. The invariant: the lines that are left, taken now, give the whole (FeedLaws: `Going`).
-use native.Mathlib.Omega.{arith}
 use mathlib.Core.Path.{sym, _∙_}
 use Rattle.session.proofs.FeedLaws.{Going, going-start, going-full, going-fits, going-none, going-step, going-end}
-use Prim.Native.Nat.{_≤_}
+use native.Mathlib.Omega.{arith}
 use borrow.Author.Needs.{needs}
 use Rattle.session.proofs.lines.Statement.{statement}
 use Rattle.session.proofs.lines.Tie as tie
@@ -32,7 +31,7 @@ same-length-2 : tie.Need-same-length-2 Inv-loop μ-loop
 same-length-2 c = search needs
 
 returns-2 : tie.Need-returns-2 Inv-loop μ-loop
-returns-2 c = going-none (c .before .before .before .before .before .before .before .before .before .before .before .before .loop .inv) (c .before .before .before .before .before .line-after .ensures) (search needs)
+returns-2 c = going-none (c .before .before .before .before .before .before .before .before .before .before .before .loop .inv) (c .before .before .before .before .line-after .ensures) (search needs)
 
 sub-left : tie.Need-sub-left Inv-loop μ-loop
 sub-left c = search needs
@@ -41,7 +40,7 @@ loop-less : tie.Need-loop-less Inv-loop μ-loop
 loop-less c = search needs
 
 loop-again : tie.Need-loop-again Inv-loop μ-loop
-loop-again c = going-step (c .before .before .before .before .before .before .before .before .before .before .before .before .loop .inv) (c .before .before .before .before .before .line-after .ensures) (search needs) (sym (c .before .before .before .before .before .before .before .before .before .if1 .left) ∙ c .before .before .before .before .before .before .before .before .before .before .full .ensures)
+loop-again c = going-step (c .before .before .before .before .before .before .before .before .before .before .before .loop .inv) (c .before .before .before .before .line-after .ensures) (search needs) (sym (c .before .before .before .before .before .before .before .before .if1 .left) ∙ c .before .before .before .before .before .before .before .before .before .full .ensures)
 
 same-length-3 : tie.Need-same-length-3 Inv-loop μ-loop
 same-length-3 c = search needs
