@@ -392,7 +392,10 @@ session("refusal-4-already-waiting", "refusal 4: the identifier of an 02 is alre
 
 EIGHT = "".join(f"02 020301 21 01 000{i} -> 32 21 01 000{i}, f004\n" for i in range(1, 9))
 
-session("refusal-5-eight-waiting", "refusal 5: eight identifiers wait and the ninth is refused; 01 is still taken; room is free again once one is answered", f"""
+REST = ", ".join(f"22 02 19 04 000{i} 02 'G1'" for i in (1, 2, 4, 5, 6, 7, 8, 9))
+
+session("refusal-5-eight-waiting",
+        "refusal 5: eight identifiers wait and the ninth is refused; 01 is still taken; room is free again once one is answered", f"""
 [setup]
 [associated]
 {EIGHT}
@@ -403,7 +406,7 @@ session("refusal-5-eight-waiting", "refusal 5: eight identifiers wait and the ni
 12 19 02 0003 02 'A9' -> 22 00 19 02 0003 02 'A9', f004
 02 020301 21 01 0009 -> 32 21 01 0009, f004
 02 020301 21 01 0003 -> ff05, f004
-16 -> 220219040001 02'G1', 220219040002 02'G1', 220219040004 02'G1', 220219040005 02'G1', 220219040006 02'G1', 220219040007 02'G1', 220219040008 02'G1', 220219040009 02'G1', 24 01, f000
+16 -> {REST}, 24 01, f000
 """)
 
 session("refusal-8-form", "refusal 8: kind unknown, body too short, octets too many, result or RER out of range", """
@@ -615,7 +618,8 @@ session("extensions-in-start-answer", "extension fields in a D-START confirmatio
 11 01 99 02 0007 02 'A9' 01 00 -> [failed 7], 24 03, f000
 """)
 
-session("extensions-in-data", "extension fields in a D-DATA indication, one, several and 511; line 25 alone where nobody waits for the confirmation", """
+session("extensions-in-data",
+        "extension fields in a D-DATA indication, one, several and 511; line 25 alone where nobody waits for the confirmation", """
 [setup]
 [associated]
 12 81 00 01 00 -> 25 0001, 20 020301 01 00, f004
@@ -683,7 +687,6 @@ session("frame-longest", "the longest edition 1 frame, 554 octets, kept, sent an
 # ---------------------------------------------------------------- the first line
 
 SETUP = b"00003c003c012c4731\n"
-GO = b"04\n0102030100\n"
 AFTER = SETUP + b"04\n10020301\n"  # what must not be looked at after ff07
 
 raw("setup-no-input", "no input at all: ff07", b"", "ff07")
@@ -715,8 +718,10 @@ raw("setup-too-long-no-line-feed", "a first line of 5,000 digits without its lin
 
 # ---------------------------------------------------------------- the rules of later lines
 
-raw("line-empty", "empty lines, one and two in a row, and as the last one", SETUP + b"\n04\n\n\n04\n\n", "f000 ff08 f000 f000 ff08 f000 ff08 f000 f000 ff08 f000")
-raw("line-odd-count", "an odd count of digits: one, three, and an event with one too many or too few", SETUP + b"0\n040\n10020301\n04\n120\n1201000\n4\n",
+raw("line-empty", "empty lines, one and two in a row, and as the last one",
+    SETUP + b"\n04\n\n\n04\n\n", "f000 ff08 f000 f000 ff08 f000 ff08 f000 f000 ff08 f000")
+raw("line-odd-count", "an odd count of digits: one, three, and an event with one too many or too few",
+    SETUP + b"0\n040\n10020301\n04\n120\n1201000\n4\n",
     "f000 ff08 f000 ff08 f000 3100 f004 f004 ff08 f004 ff08 f004 ff08 f004")
 raw("line-foreign-character", "a foreign character first, in the middle and last; a space; g, the slash, the colon, the grave accent, the at sign",
     SETUP + b"g4\n0g\n 04\n04 \n0 4\n0x04\n1002g301\n/4\n0:\n0`\n@4\n04\n",
@@ -725,7 +730,8 @@ raw("line-upper-case", "upper-case digits are foreign", SETUP + b"10Ab0301\n10AB
     "f000 ff08 f000 ff08 f000 ff08 f000 3100 f004")
 raw("line-carriage-return", "a carriage return before the line feed, alone, and in the middle", SETUP + b"04\r\n\r\n04\r04\n04\n",
     "f000 ff08 f000 ff08 f000 ff08 f000 f000")
-raw("line-nul-and-ff", "octets 00 and ff in the text, and every other octet that is no digit", SETUP + b"0\x00\n\x00\x00\n\xff4\n\xff\xff\n" + b"".join(
+raw("line-nul-and-ff", "octets 00 and ff in the text, and every other octet that is no digit",
+    SETUP + b"0\x00\n\x00\x00\n\xff4\n\xff\xff\n" + b"".join(
     bytes([0x30, c]) + b"\n" for c in range(256) if c not in b"0123456789abcdef\n") + b"04\n",
     "f000" + " ff08 f000" * (4 + 256 - 17) + " f000")
 
@@ -739,7 +745,8 @@ raw("line-4096-digits", "4,096 digits are an event: taken in Idle, in Start-sing
     SETUP + digits(b"10020301", 4096) + b"\n" + digits(b"01020301", 4096) + b"\n" + b"010203010000\n" + digits(b"1101", 4096) + b"\n"
     + b"10020301\n" + digits(b"12", 4096) + b"\n" + digits(b"04", 4096) + b"\n",
     "f000 350b f000 ff02 f000 300203010000 f001 f000 3100 f004 350b 240b f000 ff08 f000")
-raw("line-4095-digits", "4,095 digits are an odd count, 4,094 an event", SETUP + digits(b"10020301", 4095) + b"\n" + digits(b"10020301", 4094) + b"\n",
+raw("line-4095-digits", "4,095 digits are an odd count, 4,094 an event",
+    SETUP + digits(b"10020301", 4095) + b"\n" + digits(b"10020301", 4094) + b"\n",
     "f000 ff08 f000 350b f000")
 raw("line-4097-digits", "4,097 digits are refused; the next line is read from its start", SETUP + digits(b"10020301", 4097) + b"\n10020301\n",
     "f000 ff08 f000 3100 f004")
@@ -755,9 +762,12 @@ raw("last-line-garbage", "the last line is garbage without its line feed", SETUP
 raw("last-line-one-digit", "the last line is one digit without its line feed", SETUP + b"0", "f000 ff08 f000")
 raw("last-line-carriage-return", "the last line is a carriage return without a line feed", SETUP + b"04\n\r", "f000 f000 ff08 f000")
 raw("last-line-long", "the last line has 5,000 digits and no line feed: one refusal", SETUP + digits(b"04", 5000), "f000 ff08 f000")
-raw("last-line-very-long", "the last line has 70,000 digits and no line feed: one refusal", SETUP + b"04\n" + digits(b"04", 70000), "f000 f000 ff08 f000")
-raw("last-line-after-long-line", "the last line is an event without its line feed, after a long line", SETUP + digits(b"04", 70000) + b"\n04", "f000 ff08 f000 ff08 f000")
-raw("last-line-after-long-line-ended", "a long line with its line feed is the last: one refusal, not two", SETUP + digits(b"04", 70000) + b"\n", "f000 ff08 f000")
+raw("last-line-very-long", "the last line has 70,000 digits and no line feed: one refusal",
+    SETUP + b"04\n" + digits(b"04", 70000), "f000 f000 ff08 f000")
+raw("last-line-after-long-line", "the last line is an event without its line feed, after a long line",
+    SETUP + digits(b"04", 70000) + b"\n04", "f000 ff08 f000 ff08 f000")
+raw("last-line-after-long-line-ended", "a long line with its line feed is the last: one refusal, not two",
+    SETUP + digits(b"04", 70000) + b"\n", "f000 ff08 f000")
 
 
 # ---------------------------------------------------------------- writing
