@@ -3,7 +3,7 @@ use mathlib.Core.Path.{_≡_, refl, sym, _∙_, ap, subst}
 use mathlib.Core.Bool.{Bool, true, false, _||_}
 use mathlib.Core.Option.{Option, none, some}
 use mathlib.Core.List.{List, [], _∷_, _++_, append-assoc, append-nil}
-use Prim.Native.Nat.{ℕ, suc, _+_, _≤_, _<_}
+use Prim.Native.Nat.{ℕ, zero, suc}
 use native.Mathlib.Omega.{arith}
 use borrow.Author.Tests.{eq-eqb, eqb-true}
 use lib.Dec.{eqb}
@@ -11,13 +11,11 @@ use Rattle.book.specs.Book.{Body, Kind, ok, Reading, bad, good, Setup, with-see
 use Rattle.pair_laws.specs.Model.{Fate, Log, update, purge, Queue, log-all, log-out, answers, emit, World}
 use Rattle.pair_laws.specs.Statement.{ids, Prefix, Good}
 
-pub same-refl : (n : ℕ) → eqb n n ≡ true
+pub eqb-refl : (n : ℕ) → eqb n n ≡ true
+eqb-refl n = eq-eqb n n refl
 
-same-refl n = eq-eqb n n refl
-
-pub same-no : (m n : ℕ) → (m ≡ n → ⊥) → eqb m n ≡ false
-
-same-no m n h = go (eqb m n) refl
+pub eqb-no : (m n : ℕ) → (m ≡ n → ⊥) → eqb m n ≡ false
+eqb-no m n h = go (eqb m n) refl
   where
     go : (b : Bool) → eqb m n ≡ b → eqb m n ≡ false
     go true e = absurd (h (eqb-true m n e))
@@ -25,15 +23,15 @@ same-no m n h = go (eqb m n) refl
 
 pub update-same : (f : ℕ → Log) (d : ℕ) (l : Log) → update f d l d ≡ l
 unfolding update
-update-eqb f d l = rw (same-refl d)
+update-same f d l = rw (eqb-refl d)
 
 pub update-other : (f : ℕ → Log) (d : ℕ) (l : Log) (n : ℕ) → (n ≡ d → ⊥) → update f d l n ≡ f n
 unfolding update
-update-other f d l n h = rw (same-no n d h)
+update-other f d l n h = rw (eqb-no n d h)
 
 pub without-first : (r : ℕ) (w : List ℕ) → without r (r ∷ w) ≡ some w
 unfolding without without-in
-without-first r w = rw (same-refl r)
+without-first r w = rw (eqb-refl r)
 
 -- What a unit writes in the data phase: a message, or an acknowledgement confirmedOk.
 pub data Sent : Type 0 where
@@ -65,11 +63,11 @@ dats-post d fs f = dats-append d fs [] _ ∙ sym (dats-snoc d fs f [])
 
 pub purge-own : (d : ℕ) (l : Line) (q : Queue) → purge d ((d, l) ∷ q) ≡ purge d q
 unfolding purge
-purge-own d l q = rw (same-refl d)
+purge-own d l q = rw (eqb-refl d)
 
 pub purge-other : (d n : ℕ) (l : Line) (q : Queue) → (n ≡ d → ⊥) → purge d ((n, l) ∷ q) ≡ (n, l) ∷ purge d q
 unfolding purge
-purge-other d n l q h = rw (same-no n d h)
+purge-other d n l q h = rw (eqb-no n d h)
 
 pub purge-dats : (d : ℕ) (fs : List Sent) (q : Queue) → purge d (dats d fs q) ≡ purge d q
 unfolding dats
@@ -87,26 +85,26 @@ unfolding answers unsure
 answers-unsure s k [] os = refl
 answers-unsure s k (i ∷ w) os = ap (λ v. i ∷ v) (answers-unsure s k w os)
 
-pub emit-unsure : (d : ℕ) (s : Setup) (k : Bool) (w : List ℕ) (os : List Out) (v : World) → emit d (unsure s k w os) v ≡ emit d os v
+pub emit-unsure : (x d : ℕ) (s : Setup) (k : Bool) (w : List ℕ) (os : List Out) (v : World) → emit x d (unsure s k w os) v ≡ emit x d os v
 unfolding emit unsure
-emit-unsure d s k [] os v = refl
-emit-unsure d s k (i ∷ w) os v = emit-unsure d s k w os v
+emit-unsure x d s k [] os v = refl
+emit-unsure x d s k (i ∷ w) os v = emit-unsure x d s k w os v
 
 -- What line 25 does: nothing too.
 pub log-seen : (e : ℕ) (os : List Out) (l : Log) → log-all (with-seen e os) l ≡ log-all os l
 unfolding log-all log-out with-seen
-log-seen [] os l = refl
-log-seen (x ∷ e) os l = refl
+log-seen zero os l = refl
+log-seen (suc n) os l = refl
 
 pub answers-seen : (e : ℕ) (os : List Out) → answers (with-seen e os) ≡ answers os
 unfolding answers with-seen
-answers-seen [] os = refl
-answers-seen (x ∷ e) os = refl
+answers-seen zero os = refl
+answers-seen (suc n) os = refl
 
-pub emit-seen : (d : ℕ) (e : ℕ) (os : List Out) (v : World) → emit d (with-seen e os) v ≡ emit d os v
+pub emit-seen : (x d e : ℕ) (os : List Out) (v : World) → emit x d (with-seen e os) v ≡ emit x d os v
 unfolding emit with-seen
-emit-seen d [] os v = refl
-emit-seen d (x ∷ e) os v = refl
+emit-seen x d zero os v = refl
+emit-seen x d (suc n) os v = refl
 
 -- Messages and acknowledgements among frames.
 unfoldable pub msgs : List Sent → List Msg

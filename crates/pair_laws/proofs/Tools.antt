@@ -6,11 +6,13 @@ use mathlib.Core.List.{List, [], _∷_, _++_, append-nil}
 use Prim.Native.Nat.{ℕ, suc, _≤_, _<_}
 use native.Mathlib.Omega.{arith}
 use native.Mathlib.Decide.{ℕ-discrete}
+use lib.Dec.{eqb}
+use Rattle.octets.specs.Choice.{both}
 use Rattle.book.specs.Book.{Msg, Frame, Line, start, reply, dat, fin, finOk, cut, lost, State, idle, single, multi, ending, assoc, Setup, idsOf, waitingOf}
 use Rattle.book.specs.declared.Terms.{Terms}
 use Rattle.pair_laws.specs.Model.{Fate, going, asked, granted, turned, broken, ask, Log, blank, Queue, End, at, World, world, update, purge, inside, busy, log-fate}
 use Rattle.pair_laws.specs.Statement.{Good}
-use Rattle.pair_laws.proofs.Facts.{Sent, wire, dats, dats-append, update-same, update-other, purge-other, purge-own, purge-dats, same-no, same-refl}
+use Rattle.pair_laws.proofs.Facts.{Sent, wire, dats, dats-append, update-same, update-other, purge-other, purge-own, purge-dats, eqb-no, eqb-refl}
 use Rattle.pair_laws.proofs.Flow.{Flow, Rest, Past, past-of}
 use Rattle.pair_laws.proofs.Close.{books-flip, not-broken}
 use Rattle.pair_laws.proofs.Inv.{Owes, Up, up, down, Un, acked, unacked, Busy, in-single, in-multi, in-ending, in-assoc, Cut, Last, Left, Broken, near-broken, far-broken, Books, Talk, Severed, Behind, rested, turning, closing, severed, Ahead, resting, calling-single, calling-multi, stranded-single, stranded-multi, Inv, talking, dead, free, free′, opening, opening′, fateOf, tail}
@@ -19,7 +21,7 @@ pub update-id : (f : ℕ → Log) (d : ℕ) → update f d (f d) ≡ f
 update-id f d = fun-ext λ n. go n (ℕ-discrete n d)
   where
     go : (n : ℕ) → Dec (n ≡ d) → update f d (f d) n ≡ f n
-    go n (yes e) = rw e (update-eqb f d (f d))
+    go n (yes e) = rw e (update-same f d (f d))
     go n (no e) = update-other f d (f d) n e
 
 pub books-near : {f g : ℕ → Log} {d next : ℕ} (l : Log) → Books f g d next → Books (update f d l) g d next
@@ -38,7 +40,7 @@ books-ahead {f} {g} {d} {e} {next} l h lt b = record {
 }
   where
     go : (n : ℕ) → (n ≡ d → ⊥) → Dec (n ≡ e) → Good (f n) (update g e l n)
-    go n ne (yes q) = rw (q, update-eqb g e l) h
+    go n ne (yes q) = rw (q, update-same g e l) h
     go n ne (no q) = rw (update-other g e l n q) (b .hist n ne)
 
 pub books-far : {f g : ℕ → Log} {d next : ℕ} (l : Log) → Books f g d next → Books f (update g d l) d next
@@ -59,19 +61,19 @@ module _ {s t : Setup} {v : State} {d : ℕ} {f g : ℕ → Log} {acc ans acc′
       Owes acc ans wa → Owes acc′ ans′ wb → out ≡ dats d qa (tail d ea) → inn ≡ dats d qb (tail d eb) →
       Inv (world (at s u d false (update f d l) acc ans) (at t v d false g acc′ ans′) out inn next)
   make-talking {wa} {wb} {ea} {eb} {una} {unb} qa qb a b c e w p q eo ei =
-      rw (eo, ei) (talking {qa = qa} {qb = qb} a b c e (subst (λ x. Talk x (g d) wa wb ea eb qa qb una unb) (sym (update-eqb f d l)) w) (books-near l k) p q)
+      rw (eo, ei) (talking {qa = qa} {qb = qb} a b c e (subst (λ x. Talk x (g d) wa wb ea eb qa qb una unb) (sym (update-same f d l)) w) (books-near l k) p q)
 
   pub make-dead : {u : State} {x y : Line} → Busy u → Busy v → Cut x → Cut y → Severed l (g d) →
       Owes acc ans (waitingOf u) → Owes acc′ ans′ (waitingOf v) →
       Inv (world (at s u d true (update f d l) acc ans) (at t v d true g acc′ ans′) ((d, x) ∷ []) ((d, y) ∷ []) next)
-  make-dead a b c e w p q = dead a b c e (subst (λ x. Severed x (g d)) (sym (update-eqb f d l)) w) (books-near l k) p q
+  make-dead a b c e w p q = dead a b c e (subst (λ x. Severed x (g d)) (sym (update-same f d l)) w) (books-near l k) p q
 
   pub make-free : {u : State} {h i : Bool} {e : ℕ} {cl st back inn : Queue} →
       Behind d l (g d) u h cl → Ahead e (g e) (f e) d next v i st back →
       Owes acc ans (waitingOf u) → Owes acc′ ans′ (waitingOf v) → inn ≡ cl ++ st →
       Inv (world (at s u d h (update f d l) acc ans) (at t v e i g acc′ ans′) back inn next)
   make-free {u} {h} {cl} a b p q ei =
-      rw ei (free (subst (λ x. Behind d x (g d) u h cl) (sym (update-eqb f d l)) a) (ahead-update f g l b) (books-near l k) p q)
+      rw ei (free (subst (λ x. Behind d x (g d) u h cl) (sym (update-same f d l)) a) (ahead-update f g l b) (books-near l k) p q)
 
   -- The near end has left, the far end is still in the dialogue (or left too).
   pub make-left : {h i : Bool} {cl out : Queue} → Behind d (g d) l v i cl →
@@ -80,7 +82,7 @@ module _ {s t : Setup} {v : State} {d : ℕ} {f g : ℕ → Log} {acc ans acc′
   unfolding waitingOf
   make-left {i} {cl} a p q eo =
       rw (eo ∙ sym (append-nil cl))
-      (free′ (subst (λ x. Behind d (g d) x v i cl) (sym (update-eqb f d l)) a) (resting (k .below)) (books-flip (books-near l k)) q p)
+      (free′ (subst (λ x. Behind d (g d) x v i cl) (sym (update-same f d l)) a) (resting (k .below)) (books-flip (books-near l k)) q p)
 
 -- The near end was called and accepted; the caller has not heard.
 pub make-opening′ : {s t : Setup} {d : ℕ} {f g : ℕ → Log} {acc ans acc′ ans′ : List ℕ} {next : ℕ} {u : State} {T : Terms} {k′ : Msg} {τ : ℕ} {wb : List ℕ} {eb : Bool} {unb : List ℕ} {out : Queue}
@@ -89,7 +91,7 @@ pub make-opening′ : {s t : Setup} {d : ℕ} {f g : ℕ → Log} {acc ans acc�
     Owes acc ans wb → Owes acc′ ans′ (idsOf k′) → out ≡ (d, reply true none) ∷ dats d qb (tail d eb) →
     Inv (world (at s u d false (update f d l) acc ans) (at t (multi T k′ τ) d false g acc′ ans′) out [] next)
 make-opening′ {d} {f} {g} {wb} {eb} {unb} l k qb a b w p q eo =
-    rw eo (opening′ {qb = qb} a b (subst (λ x. Talk (g d) x [] wb false eb [] qb [] unb) (sym (update-eqb f d l)) w) (books-flip (books-near l k)) q p)
+    rw eo (opening′ {qb = qb} a b (subst (λ x. Talk (g d) x [] wb false eb [] qb [] unb) (sym (update-same f d l)) w) (books-flip (books-near l k)) q p)
 
 -- The near end is the one ahead, and has written `l` into its log of its dialogue e.
 pub make-ahead : {s t : Setup} {u v : State} {d e : ℕ} {h i : Bool} {f g : ℕ → Log} {acc ans acc′ ans′ : List ℕ} {next : ℕ} {cl st back out : Queue} (l : Log) →
@@ -99,7 +101,7 @@ pub make-ahead : {s t : Setup} {u v : State} {d e : ℕ} {h i : Bool} {f g : ℕ
 make-ahead {u} {v} {d} {e} {h} {i} {f} {g} {next} {cl} {st} {back} l a b k good lt ne p q eo =
     rw eo (free′
     (subst (λ x. Behind d (f d) x u h cl) (sym (update-other g e l d (λ z. ne (sym z)))) a)
-    (subst (λ x. Ahead e x (f e) d next v i st back) (sym (update-eqb g e l)) b)
+    (subst (λ x. Ahead e x (f e) d next v i st back) (sym (update-same g e l)) b)
     (books-ahead l good lt k) p q)
 
 -- The link, seen from a dialogue.
@@ -118,10 +120,10 @@ up-is-busy down = in-ending
 pub ahead-outside : {d e next : ℕ} {a b : Log} {v : State} {i : Bool} {st back : Queue} → Ahead e a b d next v i st back → both (busy v) (eqb e d) ≡ false
 unfolding busy
 ahead-outside (resting lt) = refl
-ahead-outside {d} {e} (calling-single o p q ne lt) = same-no e d ne
-ahead-outside {d} {e} (calling-multi p q ne lt) = same-no e d ne
-ahead-outside {d} {e} (stranded-single c v ne lt) = same-no e d ne
-ahead-outside {d} {e} (stranded-multi c v ne lt) = same-no e d ne
+ahead-outside {d} {e} (calling-single o p q ne lt) = eqb-no e d ne
+ahead-outside {d} {e} (calling-multi p q ne lt) = eqb-no e d ne
+ahead-outside {d} {e} (stranded-single c v ne lt) = eqb-no e d ne
+ahead-outside {d} {e} (stranded-multi c v ne lt) = eqb-no e d ne
 
 pub ahead-purge : {d e next : ℕ} {a b : Log} {v : State} {i : Bool} {st back : Queue} → Ahead e a b d next v i st back → purge d st ≡ st
 unfolding purge
@@ -184,7 +186,7 @@ ask-broken far-broken = far-broken
 
 pub outside-no : (u : State) (d e : ℕ) → (d ≡ e → ⊥) → both (busy u) (eqb d e) ≡ false
 unfolding busy
-outside-no u d e ne = rw (same-no d e ne) (go u)
+outside-no u d e ne = rw (eqb-no d e ne) (go u)
   where
     go : (u : State) → both (busy u) false ≡ false
     go idle = refl
