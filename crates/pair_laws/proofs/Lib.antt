@@ -3,3 +3,11 @@ pub mod Flow
 pub mod Inv
 pub mod Close
 pub mod Tools
+pub mod StepEnd
+pub mod StepTick
+pub mod StepAsk
+pub mod StepBreak
+pub mod StepHear
+pub mod Proof
+pub mod Taken
+pub mod Readings
