@@ -36,11 +36,11 @@ without-first r w = rw (eqb-refl r)
 -- What a unit writes in the data phase: a message, or an acknowledgement confirmedOk.
 pub data Sent : Type 0 where
   mes : Msg → (ext : ℕ) → Sent
-  ack : (ref : ℕ) (rest : List ℕ × Body × ℕ) → Sent
+  confirm : (ref : ℕ) (rest : List ℕ × Body × ℕ) → Sent
 
 unfoldable pub wire : Sent → Reading
 wire (mes m x) = good (msg m) x
-wire (ack r x) = good (note ok r none (x .0) (x .1)) (x .2)
+wire (confirm r x) = good (note ok r none (x .0) (x .1)) (x .2)
 
 -- The queue of a dialogue's data lines, and what follows.
 unfoldable pub dats : ℕ → List Sent → Queue → Queue
@@ -110,24 +110,24 @@ emit-seen x d (suc n) os v = refl
 unfoldable pub msgs : List Sent → List Msg
 msgs [] = []
 msgs (mes m x ∷ fs) = m ∷ msgs fs
-msgs (ack r x ∷ fs) = msgs fs
+msgs (confirm r x ∷ fs) = msgs fs
 
 unfoldable pub acks : List Sent → List ℕ
 acks [] = []
 acks (mes m x ∷ fs) = acks fs
-acks (ack r x ∷ fs) = r ∷ acks fs
+acks (confirm r x ∷ fs) = r ∷ acks fs
 
 pub msgs-append : (fs gs : List Sent) → msgs (fs ++ gs) ≡ msgs fs ++ msgs gs
 unfolding msgs
 msgs-append [] gs = refl
 msgs-append (mes m x ∷ fs) gs = ap (λ v. m ∷ v) (msgs-append fs gs)
-msgs-append (ack r x ∷ fs) gs = msgs-append fs gs
+msgs-append (confirm r x ∷ fs) gs = msgs-append fs gs
 
 pub acks-append : (fs gs : List Sent) → acks (fs ++ gs) ≡ acks fs ++ acks gs
 unfolding acks
 acks-append [] gs = refl
 acks-append (mes m x ∷ fs) gs = acks-append fs gs
-acks-append (ack r x ∷ fs) gs = ap (λ v. r ∷ v) (acks-append fs gs)
+acks-append (confirm r x ∷ fs) gs = ap (λ v. r ∷ v) (acks-append fs gs)
 
 pub ids-append : (ms ns : List Msg) → ids (ms ++ ns) ≡ ids ms ++ ids ns
 unfolding ids

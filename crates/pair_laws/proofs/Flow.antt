@@ -8,7 +8,7 @@ use Prim.Native.Nat.{ℕ}
 use Rattle.book.specs.Book.{Body, Msg, plain, sure, idsOf}
 
 use Rattle.pair_laws.specs.Statement.{ids, Prefix}
-use Rattle.pair_laws.proofs.Facts.{Sent, mes, ack, msgs, acks, msgs-append, acks-append, ids-append}
+use Rattle.pair_laws.proofs.Facts.{Sent, mes, confirm, msgs, acks, msgs-append, acks-append, ids-append}
 
 -- Both ends are in the dialogue.
 pub record Flow (handed given : List Msg) (okays wait : List ℕ) (q back : List Sent) (un : List ℕ) : Type 0 where
@@ -59,7 +59,7 @@ flow-plain {g} {q} n nr nq b x f = record {
 }
 
 pub flow-acked : {h g : List Msg} {o w : List ℕ} {q back : List Sent} (i : ℕ) (ir : Option ℕ) (iq : Option (List ℕ)) (b : Body) (x : ℕ) (y : List ℕ × Body × ℕ) →
-    Flow h g o w (mes (sure i ir iq b) x ∷ q) back [] → Flow h (g ++ (sure i ir iq b ∷ [])) o w q (back ++ (ack i y ∷ [])) []
+    Flow h g o w (mes (sure i ir iq b) x ∷ q) back [] → Flow h (g ++ (sure i ir iq b ∷ [])) o w q (back ++ (confirm i y ∷ [])) []
 unfolding msgs ids idsOf acks
 flow-acked {g} {o} {q} {back} i ir iq b x y f = record {
   moved = f .moved ∙ sym (append-assoc g (sure i ir iq b ∷ []) (msgs q));
@@ -78,7 +78,7 @@ flow-unacked {g} {o} {q} {back} {un} m x f = record {
 
 -- The first end is told.
 pub flow-told : {h g : List Msg} {o w : List ℕ} {q back : List Sent} {un : List ℕ} (r : ℕ) (x : List ℕ × Body × ℕ) →
-    Flow h g o w q (ack r x ∷ back) un → Flow h g (o ++ (r ∷ [])) (acks back ++ (un ++ ids (msgs q))) q back un
+    Flow h g o w q (confirm r x ∷ back) un → Flow h g (o ++ (r ∷ [])) (acks back ++ (un ++ ids (msgs q))) q back un
 unfolding acks
 flow-told {o} {back} {un} r x f = record {
   moved = f .moved;
@@ -88,7 +88,7 @@ flow-told {o} {back} {un} r x f = record {
 
 -- Frames of the other flow.
 pub flow-past-ack : {h g : List Msg} {o w : List ℕ} {q back : List Sent} {un : List ℕ} (r : ℕ) (x : List ℕ × Body × ℕ) →
-    Flow h g o w (ack r x ∷ q) back un → Flow h g o w q back un
+    Flow h g o w (confirm r x ∷ q) back un → Flow h g o w q back un
 unfolding msgs
 flow-past-ack r x f = record { moved = f .moved; seen = f .seen; owed = f .owed }
 
@@ -98,10 +98,10 @@ unfolding acks
 flow-past-msg m x f = record { moved = f .moved; seen = f .seen; owed = f .owed }
 
 pub flow-add-ack : {h g : List Msg} {o w : List ℕ} {q back : List Sent} {un : List ℕ} (r : ℕ) (x : List ℕ × Body × ℕ) →
-    Flow h g o w q back un → Flow h g o w (q ++ (ack r x ∷ [])) back un
+    Flow h g o w q back un → Flow h g o w (q ++ (confirm r x ∷ [])) back un
 unfolding msgs
 flow-add-ack {q} r x f =
-    let e : msgs (q ++ (ack r x ∷ [])) ≡ msgs q = simp (msgs-append, append-nil) in
+    let e : msgs (q ++ (confirm r x ∷ [])) ≡ msgs q = simp (msgs-append, append-nil) in
     record { moved = rw e (f .moved); seen = f .seen; owed = rw e (f .owed) }
 
 pub flow-add-msg : {h g : List Msg} {o w : List ℕ} {q back : List Sent} {un : List ℕ} (m : Msg) (x : ℕ) →
@@ -119,6 +119,6 @@ rest-given {g} {o} {q} m x r = record {
   told = (r .told .0 ++ (idsOf m ++ []), sym (append-assoc o (r .told .0) (idsOf m ++ [])) ∙ ap (λ v. v ++ (idsOf m ++ [])) (r .told .1) ∙ sym (ids-append g (m ∷ [])));
 }
 
-pub rest-past-ack : {h g : List Msg} {o : List ℕ} {q : List Sent} (r : ℕ) (x : List ℕ × Body × ℕ) → Rest h g o (ack r x ∷ q) → Rest h g o q
+pub rest-past-ack : {h g : List Msg} {o : List ℕ} {q : List Sent} (r : ℕ) (x : List ℕ × Body × ℕ) → Rest h g o (confirm r x ∷ q) → Rest h g o q
 unfolding msgs
 rest-past-ack i x r = record { moved = r .moved; told = r .told }

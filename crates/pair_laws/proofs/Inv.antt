@@ -9,7 +9,7 @@ use Rattle.book.specs.Book.{Body, Kind, ok, Reading, bad, good, bodyOf, Msg, pl
 use Rattle.book.specs.declared.Terms.{Terms}
 use Rattle.pair_laws.specs.Model.{Fate, going, asked, granted, turned, broken, Log, blank, Queue, End, at, World, world, swap, update}
 use Rattle.pair_laws.specs.Statement.{ids, Prefix, Good, InOrder}
-use Rattle.pair_laws.proofs.Facts.{Sent, mes, ack, dats, update-same, update-other}
+use Rattle.pair_laws.proofs.Facts.{Sent, mes, confirm, dats, update-same, update-other}
 use Rattle.pair_laws.proofs.Flow.{Flow, Rest, Past}
 
 -- An end that is in the data phase: what it waits for, and whether it has sent 33.

@@ -7,11 +7,11 @@ use Prim.Native.Nat.{ℕ, suc, _≤_, _<_}
 use native.Mathlib.Omega.{arith}
 use native.Mathlib.Nat.{le-refl}
 use native.Mathlib.Decide.{ℕ-discrete}
-use Rattle.book.specs.Book.{Body, Kind, ok, Reading, bad, good, bodyOf, settled, with-seen, Msg, plain, sure, Frame, msg, note, Line, start, reply, dat, fin, finOk, cut, lost, Result, success, failed, uncertain, Out, give, answer, ended, gone, send, State, idle, single, multi, ending, assoc, Setup, Outcome, refused, done, idsOf, waitingOf, without, unsure, fall, quiet-fall, on-start, first-contact, on-reply, begun, answered-by, on-dat, on-fin, on-finOk, on-abort, greet, result-of, local, ack-body}
+use Rattle.book.specs.Book.{Body, Kind, ok, Reading, bad, good, bodyOf, settled, with-seen, Msg, plain, sure, Frame, msg, note, Line, start, reply, dat, fin, finOk, cut, lost, Result, success, failed, uncertain, Out, give, answer, ended, gone, send, State, idle, single, multi, ending, assoc, Setup, Outcome, refused, done, idsOf, waitingOf, without, unsure, fall, quiet-fall, on-start, first-contact, on-reply, begun, answered-by, on-dat, on-fin, on-finOk, on-abort, greet, result-of, single-result, noted, left-waiting, local, ack, ack-body}
 use Rattle.book.specs.declared.Terms.{Terms}
-use Rattle.pair_laws.specs.Model.{Fate, going, asked, granted, turned, broken, ask, grant, turn, Log, blank, log-handed, log-fate, log-sent, log-out, log-all, log-heard, answers, Queue, End, at, World, world, update, purge, busy, inside, set-hung, post, sever, far-inside, carry, emit, act, silent, join, fresh, is-start, start-comes, call, deliver-near, reach, hear, near-inside, near-state, as-heard, log-read, log-given, log-okay}
+use Rattle.pair_laws.specs.Model.{Fate, going, asked, granted, turned, broken, ask, grant, turn, Log, blank, log-handed, log-fate, log-sent, log-out, log-all, log-heard, answers, Queue, End, at, World, world, update, purge, busy, inside, set-hung, post, sever, far-inside, carry, emit, act, silent, join, fresh, is-start, start-comes, on-line, deliver-near, reach, hear, hear-start, act-there, extended, with-fields, near-inside, near-state, as-heard, log-read, log-given, log-okay}
 use Rattle.pair_laws.specs.Statement.{Good, ids, Prefix, InOrder}
-use Rattle.pair_laws.proofs.Facts.{Sent, mes, ack, wire, log-seen, answers-seen, emit-seen, dats, dats-append, dats-post, emit-unsure, log-unsure, answers-unsure, eqb-refl, eqb-no, purge-dats, purge-own, update-same, update-other, without-first, msgs, acks}
+use Rattle.pair_laws.proofs.Facts.{Sent, mes, confirm, wire, log-seen, answers-seen, emit-seen, dats, dats-append, dats-post, emit-unsure, log-unsure, answers-unsure, eqb-refl, eqb-no, purge-dats, purge-own, update-same, update-other, without-first, msgs, acks}
 use Rattle.pair_laws.proofs.Flow.{Flow, Rest, Past, past-of, past-of-rest, past-more, rest-of, rest-given, rest-past-ack, flow-more, flow-plain, flow-acked, flow-unacked, flow-told, flow-past-ack, flow-past-msg, flow-add-ack, flow-add-msg}
 use Rattle.pair_laws.proofs.Inv.{Owes, Up, up, down, Un, acked, unacked, Busy, in-single, in-multi, in-ending, in-assoc, Cut, by-peer, by-provider, Last, last-fin, last-ok, Left, left-going, left-granted, Broken, near-broken, far-broken, Books, Talk, Severed, Reply, reply-plain, reply-sure, called-log, given-log, Behind, rested, turning, closing, severed, Ahead, resting, calling-single, calling-multi, stranded-single, stranded-multi, Inv, talking, dead, free, free′, opening, opening′, fateOf, tail}
 use Rattle.pair_laws.proofs.Close.{talk-flip, books-flip, severed-flip, good-severed, good-talk, good-behind, good-turning, good-closing, good-flip, good-all, good-blank, up-waits, not-broken, not-going}
@@ -45,7 +45,7 @@ unfolding log-given log-okay
 hear-plain j jr jq n x v = record { to-far = flow-past-msg _ x (v .to-far); to-near = flow-plain j jr jq n x (v .to-near); near-fate = v .near-fate; far-fate = v .far-fate }
 
 hear-sure : {a b : Log} {wa wb : List ℕ} {ea eb : Bool} {qa qb : List Sent} {unb : List ℕ} (i : ℕ) (ir : Option ℕ) (iq : Option (List ℕ)) (n : Body) (x : ℕ) (y : List ℕ × Body × ℕ) →
-    Talk a b wa wb ea eb qa (mes (sure i ir iq n) x ∷ qb) [] unb → Talk (log-given (sure i ir iq n) a) b wa wb ea eb (qa ++ (ack i y ∷ [])) qb [] unb
+    Talk a b wa wb ea eb qa (mes (sure i ir iq n) x ∷ qb) [] unb → Talk (log-given (sure i ir iq n) a) b wa wb ea eb (qa ++ (confirm i y ∷ [])) qb [] unb
 unfolding log-given log-okay
 hear-sure i ir iq n x y v = record { to-far = flow-add-ack i y (flow-past-msg _ x (v .to-far)); to-near = flow-acked i ir iq n x y (v .to-near); near-fate = v .near-fate; far-fate = v .far-fate }
 
@@ -55,11 +55,11 @@ unfolding log-given log-okay
 hear-late m x v = record { to-far = flow-past-msg m x (v .to-far); to-near = flow-unacked m x (v .to-near); near-fate = v .near-fate; far-fate = v .far-fate }
 
 hear-ack : {a b : Log} {wa wb : List ℕ} {ea eb : Bool} {qa qb : List Sent} {una unb : List ℕ} (r : ℕ) (x : List ℕ × Body × ℕ) →
-    Talk a b wa wb ea eb qa (ack r x ∷ qb) una unb → Talk (log-okay r a) b (acks qb ++ (unb ++ ids (msgs qa))) wb ea eb qa qb una unb
+    Talk a b wa wb ea eb qa (confirm r x ∷ qb) una unb → Talk (log-okay r a) b (acks qb ++ (unb ++ ids (msgs qa))) wb ea eb qa qb una unb
 unfolding log-given log-okay
 hear-ack r x v = record { to-far = flow-told r x (v .to-far); to-near = flow-past-ack r x (v .to-near); near-fate = v .near-fate; far-fate = v .far-fate }
 
-owed-first : {h g : List Msg} {o w : List ℕ} {q back : List Sent} {un : List ℕ} (r : ℕ) (x : List ℕ × Body × ℕ) → Flow h g o w q (ack r x ∷ back) un → w ≡ r ∷ (acks back ++ (un ++ ids (msgs q)))
+owed-first : {h g : List Msg} {o w : List ℕ} {q back : List Sent} {un : List ℕ} (r : ℕ) (x : List ℕ × Body × ℕ) → Flow h g o w q (confirm r x ∷ back) un → w ≡ r ∷ (acks back ++ (un ++ ids (msgs q)))
 unfolding acks
 owed-first r x f = f .owed
 
@@ -90,7 +90,7 @@ unfolding log-fate log-okay called-log given-log ids idsOf
 good-turned-ok i ir iq n ea eb = rw (ea, eb) (record { to-far = ([], refl); to-near = ([], refl); near-told = ([], refl); far-told = ([], refl); whole = λ o. (refl, refl) })
 
 pub inv-hear : (x : ℕ) {w : World} → Inv w → Inv (deliver-near x w)
-unfolding deliver-near reach hear near-inside near-state as-heard inside busy on-line on-start first-contact on-reply begun answered-by on-dat on-fin on-finOk quiet-fall act join log-heard log-all log-out log-sent emit carry post answers waitingOf tail dats idsOf fateOf log-fate grant blank given-log log-handed on-abort greet result-of log-read log-given log-okay wire shotOf
+unfolding deliver-near reach hear hear-start act-there is-start extended with-fields ack single-result noted left-waiting near-inside near-state as-heard inside busy on-line on-start first-contact on-reply begun answered-by on-dat on-fin on-finOk quiet-fall act join log-heard log-all log-out log-sent emit carry post answers waitingOf tail dats idsOf fateOf log-fate grant blank given-log log-handed on-abort greet result-of log-read log-given log-okay wire shotOf
 inv-hear x (talking {qb = []} a up c e v k p q) = talking {qb = []} a up c e v k p q
 inv-hear x (talking {d = d} {qa = qa} {qb = []} up down c e v k p q) =
     simp (eqb-refl, emit-unsure, log-unsure, answers-unsure)
@@ -101,13 +101,13 @@ inv-hear x (talking {d = d} {qa = qa} {qb = []} down down c e v k p q) =
 inv-hear x (talking {qa = qa} {qb = mes (plain j jr jq n) y ∷ qs} up b c e v k p q) =
     simp (eqb-refl, log-seen, answers-seen, emit-seen) (make-talking _ k qa qs up b c e (hear-plain j jr jq n y v) (same-account p) q refl refl)
 inv-hear x (talking {s = s} {d = d} {qa = qa} {qb = mes (sure i ir iq n) y ∷ qs} up b acked e v k p q) =
-    simp (eqb-refl, log-seen, answers-seen, emit-seen) (make-talking _ k (qa ++ (ack i (s .name, ack-body n, x) ∷ [])) qs up b acked e (hear-sure i ir iq n y _ v) (same-account p) q (dats-post d qa _) refl)
-inv-hear x (talking {qa = qa} {qb = ack r y ∷ qs} up b c e v k p q) =
+    simp (eqb-refl, log-seen, answers-seen, emit-seen) (make-talking _ k (qa ++ (confirm i (s .name, ack-body n, x) ∷ [])) qs up b acked e (hear-sure i ir iq n y _ v) (same-account p) q (dats-post d qa _) refl)
+inv-hear x (talking {qa = qa} {qb = confirm r y ∷ qs} up b c e v k p q) =
     let o = owed-first r y (v .to-far) in
     simp (eqb-refl, log-seen, answers-seen, emit-seen, without-eq r o) (make-talking _ k qa qs up b c e (hear-ack r y v) (told-owes r o p) q refl refl)
 inv-hear x (talking {qa = qa} {qb = mes m y ∷ qs} down b unacked e v k p q) =
     simp (eqb-refl, log-seen, answers-seen, emit-seen) (make-talking _ k qa qs down b unacked e (hear-late m y v) (same-account p) q refl refl)
-inv-hear x (talking {qa = qa} {qb = ack r y ∷ qs} down b c e v k p q) =
+inv-hear x (talking {qa = qa} {qb = confirm r y ∷ qs} down b c e v k p q) =
     let o = owed-first r y (v .to-far) in
     simp (eqb-refl, log-seen, answers-seen, emit-seen, without-eq r o) (make-talking _ k qa qs down b c e (hear-ack r y v) (told-owes r o p) q refl refl)
 inv-hear x (dead a b c by-peer v k p q) =
@@ -135,7 +135,7 @@ inv-hear x (free {d = d} {f = lf} {g = lg} (closing {q = []} last-ok f r e y) b 
     simp (eqb-refl, emit-unsure, log-unsure, answers-unsure) (make-free _ k (rested (good-granted (lf d) (lg d) f r)) b (all-answered p) q refl)
 inv-hear x (free (closing {q = mes m z ∷ qs} l f r e y) b k p q) =
     simp (eqb-refl, log-seen, answers-seen, emit-seen) (make-free _ k (closing {q = qs} l (flow-past-msg m z f) (rest-given m z r) e y) b (same-account p) q refl)
-inv-hear x (free (closing {q = ack j z ∷ qs} l f r e y) b k p q) =
+inv-hear x (free (closing {q = confirm j z ∷ qs} l f r e y) b k p q) =
     let o = owed-first j z f in
     simp (eqb-refl, log-seen, answers-seen, emit-seen, without-eq j o) (make-free _ k (closing {q = qs} l (flow-told j z f) (rest-past-ack j z r) e y) b (told-owes j o p) q refl)
 inv-hear x (free (severed a by-peer v) b k p q) =

@@ -9,9 +9,9 @@ use native.Mathlib.Nat.{le-refl}
 use native.Mathlib.Decide.{ℕ-discrete}
 use Rattle.book.specs.Book.{Body, Kind, ok, Reading, bad, good, bodyOf, greet, Msg, plain, sure, Frame, msg, note, Line, start, reply, dat, fin, finOk, cut, lost, Result, success, failed, uncertain, Out, give, answer, ended, gone, send, State, idle, single, multi, ending, assoc, Setup, Outcome, refused, done, idsOf, waitingOf, without, unsure, fall, quiet-fall, on-start, first-contact, on-reply, begun, on-dat, on-fin, on-finOk, on-abort}
 use Rattle.book.specs.declared.Terms.{Terms}
-use Rattle.pair_laws.specs.Model.{Fate, going, asked, granted, turned, broken, ask, grant, turn, Log, blank, log-handed, log-fate, log-sent, log-out, log-all, log-heard, answers, Queue, End, at, World, world, update, purge, busy, inside, set-hung, post, sever, far-inside, carry, emit, act, silent, join, fresh, is-start, start-comes, call, Side, Act, swap, run, beginning, as-heard}
+use Rattle.pair_laws.specs.Model.{Fate, going, asked, granted, turned, broken, ask, grant, turn, Log, blank, log-handed, log-fate, log-sent, log-out, log-all, log-heard, answers, Queue, End, at, World, world, update, purge, busy, inside, set-hung, post, sever, far-inside, carry, emit, act, silent, join, fresh, is-start, start-comes, Side, Act, swap, run, beginning, as-heard}
 use Rattle.pair_laws.specs.Statement.{Good, ids, Prefix, InOrder}
-use Rattle.pair_laws.proofs.Facts.{Sent, mes, ack, wire, dats, dats-append, dats-post, emit-unsure, log-unsure, answers-unsure, eqb-refl, eqb-no, purge-dats, purge-own, update-same, update-other, without-first, msgs, acks}
+use Rattle.pair_laws.proofs.Facts.{Sent, mes, confirm, wire, dats, dats-append, dats-post, emit-unsure, log-unsure, answers-unsure, eqb-refl, eqb-no, purge-dats, purge-own, update-same, update-other, without-first, msgs, acks}
 use Rattle.pair_laws.proofs.Flow.{Flow, Rest, Past, past-of, past-of-rest, past-more, rest-of, rest-given, rest-past-ack, flow-more, flow-plain, flow-acked, flow-unacked, flow-told, flow-past-ack, flow-past-msg, flow-add-ack, flow-add-msg}
 use Rattle.pair_laws.proofs.Inv.{Owes, Up, up, down, Un, acked, unacked, Busy, in-single, in-multi, in-ending, in-assoc, Cut, by-peer, by-provider, Last, last-fin, last-ok, Left, left-going, left-granted, Broken, near-broken, far-broken, Books, Talk, Severed, Reply, reply-plain, reply-sure, called-log, given-log, Behind, rested, turning, closing, severed, Ahead, resting, calling-single, calling-multi, stranded-single, stranded-multi, Inv, talking, dead, free, free′, opening, opening′, fateOf, tail}
 use Rattle.pair_laws.proofs.Close.{inv-swap, talk-flip, books-flip, severed-flip, good-severed, good-talk, good-behind, good-turning, good-closing, good-flip, good-all, good-blank, up-waits, not-broken, not-going}
@@ -55,9 +55,9 @@ taken x (talking {qb = []} up down c e v k p q) = accepted
 taken x (talking {qb = []} down down c e v k p q) = accepted
 taken x (talking {qb = mes (plain j jr jq n) y ∷ qs} up b c e v k p q) = accepted
 taken x (talking {qb = mes (sure i ir iq n) y ∷ qs} up b c e v k p q) = accepted
-taken x (talking {qb = ack r y ∷ qs} up b c e v k p q) = take-assoc _ _ _ r _ _ _
+taken x (talking {qb = confirm r y ∷ qs} up b c e v k p q) = take-assoc _ _ _ r _ _ _
 taken x (talking {qb = mes m y ∷ qs} down b c e v k p q) = accepted
-taken x (talking {qb = ack r y ∷ qs} down b c e v k p q) = take-ending _ _ _ r _ _ _ _
+taken x (talking {qb = confirm r y ∷ qs} down b c e v k p q) = take-ending _ _ _ r _ _ _ _
 taken x (dead a b c by-peer v k p q) = take-abort _ 0 a
 taken x (dead a b c by-provider v k p q) = take-abort _ 1 a
 taken x (free (rested h) (resting lt) k p q) = accepted
@@ -70,7 +70,7 @@ taken x (free (turning r ea eb) b k p q) = accepted
 taken x (free (closing {q = []} last-fin f r e y) b k p q) = accepted
 taken x (free (closing {q = []} last-ok f r e y) b k p q) = accepted
 taken x (free (closing {q = mes m z ∷ qs} l f r e y) b k p q) = accepted
-taken x (free (closing {q = ack j z ∷ qs} l f r e y) b k p q) = take-ending _ _ _ j _ _ _ _
+taken x (free (closing {q = confirm j z ∷ qs} l f r e y) b k p q) = take-ending _ _ _ j _ _ _ _
 taken x (free (severed a by-peer v) b k p q) = take-abort _ 0 a
 taken x (free (severed a by-provider v) b k p q) = take-abort _ 1 a
 taken x (free′ a (resting lt) k p q) = accepted
