@@ -8,6 +8,6 @@ pub mod StepTick
 pub mod StepAsk
 pub mod StepBreak
 pub mod StepHear
-pub mod Proof
+pub mod Demand
 pub mod Taken
 pub mod Readings

@@ -5,11 +5,7 @@ use mathlib.Core.List.{List, [], _∷_, _++_, List·Memᴰ, List·Memᴰ·head, 
 use Prim.Native.Nat.{ℕ}
 use Rattle.book.specs.Book.{Msg, plain, sure, idsOf}
 use Rattle.pair_laws.specs.Model.{Log}
-use Rattle.pair_laws.specs.Statement.{Prefix, ids, Good}
-
--- A confirmed message with identifier r is among ms.
-abbrev pub Confirmed : ℕ → List Msg → Type 0
-Confirmed r ms = (m : Msg) × List·Memᴰ m ms × (idsOf m ≡ r ∷ [])
+use Rattle.pair_laws.specs.Statement.{Prefix, ids, Good, Confirmed}
 
 later : {r : ℕ} {ms : List Msg} (m : Msg) → Confirmed r ms → Confirmed r (m ∷ ms)
 later m c = (c .0, Memᴰ·append-right (m ∷ []) (c .1), c .2)

@@ -1,30 +1,44 @@
 -- Demand 3 of every run.
 use mathlib.Core.Path.{_≡_, refl}
 use mathlib.Core.Option.{Option, none, some}
-use mathlib.Core.Bool.{true, false}
+use mathlib.Core.Bool.{Bool, true, false}
 use mathlib.Core.List.{List, [], _∷_}
 use Prim.Native.Nat.{ℕ, suc}
 use native.Mathlib.Omega.{arith}
-use Rattle.book.specs.Book.{Msg, Reading, vet, bodyOf, State, waitingOf, bar, late, Setup}
+use Rattle.book.specs.Book.{Msg, Reading, refused, vet, on-vetted, on-shot, on-request, bodyOf, State, waitingOf, bar, late, Setup}
 use Rattle.book.specs.declared.Terms.{Terms}
-use Rattle.pair_laws.specs.Model.{ask-vetted, World, world, at, swap, Act, request, end, tick, abort, deliver, Side, near, far, do-near, do-at, run, new-end, beginning, ask-near, tick-near, blank}
+use Rattle.pair_laws.specs.Model.{Log, Queue, End, ask-with, asked-ids, busy, start-comes, act, act-there, World, world, at, swap, Act, request, end, tick, abort, deliver, Side, near, far, do-near, do-at, run, new-end, beginning, ask-near, tick-near, blank}
 use Rattle.pair_laws.specs.Statement.{Theorem, Demand3}
 use Rattle.pair_laws.proofs.Inv.{Inv, Behind, rested, Ahead, resting, Books, free}
 use Rattle.pair_laws.proofs.Close.{inv-swap, demanded, good-blank}
 use Rattle.pair_laws.proofs.StepEnd.{inv-end}
-use Rattle.pair_laws.proofs.StepTick.{inv-tick}
-use Rattle.pair_laws.proofs.StepAsk.{inv-ask}
+use Rattle.pair_laws.proofs.StepTick.{tick-at, inv-tick}
+use Rattle.pair_laws.proofs.StepAsk.{shot, ask-at, inv-ask}
 use Rattle.pair_laws.proofs.StepBreak.{inv-break}
 use Rattle.pair_laws.proofs.StepHear.{inv-hear}
 
-inv-vetted : (x : ℕ) (a : Terms) (r : Option Msg) (w : World) → Inv w → Inv (ask-vetted x a r w)
-unfolding ask-vetted
-inv-vetted x a none w i = i
-inv-vetted x a (some m) (world (at s u d h f acc ans) b out inn next) i = inv-ask (bar a m u) (bodyOf m .maintained) x a m refl i
+-- the rule book's answer to a vetted request, with the refusal that it meets in Associated as a parameter
+shot-is : (k : Bool) (a : Terms) (m : Msg) (u : State) → on-shot k a m u ≡ shot (bar a m u) k a m u
+unfolding on-shot shot
+shot-is false a m u = refl
+shot-is true a m u = refl
+
+ask-refused : (x : ℕ) (new : List ℕ) (i c : Bool) (n : ℕ) (w : World) → ask-with x new i c (refused n) w ≡ w
+unfolding ask-with act act-there
+ask-refused x new true c n w = refl
+ask-refused x new false true n w = refl
+ask-refused x new false false n w = refl
+
+inv-vetted : (x : ℕ) (a : Terms) (o : Option Msg) {s : Setup} {u : State} {d : ℕ} {h : Bool} {f : ℕ → Log} {acc ans : List ℕ} {b : End} {out inn : Queue} {next : ℕ} →
+    Inv (world (at s u d h f acc ans) b out inn next) →
+    Inv (ask-with x (asked-ids o) (busy u) (start-comes inn) (on-vetted a o u) (world (at s u d h f acc ans) b out inn next))
+unfolding asked-ids on-vetted ask-at
+inv-vetted x a none {u} {inn} i = rw (ask-refused x [] (busy u) (start-comes inn) 2) i
+inv-vetted x a (some m) {u} i = rw (shot-is (bodyOf m .maintained) a m u) (inv-ask (bar a m u) (bodyOf m .maintained) x a m refl i)
 
 inv-near : (c : Act) (w : World) → Inv w → Inv (do-near c w)
-unfolding do-near ask-near tick-near
-inv-near (request c x a r) w i = inv-vetted x a (vet c r) w i
+unfolding do-near ask-near tick-near tick-at on-request
+inv-near (request c x a r) (world (at s u d h f acc ans) b out inn next) i = inv-vetted x a (vet c r) i
 inv-near end w i = inv-end i
 inv-near tick (world (at s u d h f acc ans) b out inn next) i = inv-tick (late s u) i
 inv-near abort w i = inv-break i
