@@ -11,3 +11,4 @@ pub mod StepHear
 pub mod Demand
 pub mod Taken
 pub mod Readings
+pub mod Examples
