@@ -1,17 +1,17 @@
 -- What the invariant says, and its symmetry.
-use mathlib.Core.Path.{_≡_, refl, sym, _∙_, ap, subst}
+use mathlib.Core.Path.{_≡_, refl, _∙_}
 use mathlib.Core.Bool.{Bool, true, false, false≢true}
-use mathlib.Core.List.{List, [], _∷_, _++_, append-nil}
-use Prim.Native.Nat.{ℕ, suc, _≤_, _<_}
+use mathlib.Core.List.{List, [], _++_, append-nil}
+use Prim.Native.Nat.{ℕ}
 use native.Mathlib.Omega.{arith}
 use native.Mathlib.Decide.{ℕ-discrete}
-use Rattle.book.specs.Book.{Msg, Frame, State, idle, single, multi, ending, assoc, idsOf, waitingOf}
+use Rattle.book.specs.Book.{Msg, State, idle, multi, idsOf, waitingOf}
 use Rattle.book.specs.declared.Terms.{Terms}
-use Rattle.pair_laws.specs.Model.{Fate, going, asked, granted, turned, broken, Log, blank, Queue, World, world, swap}
-use Rattle.pair_laws.specs.Statement.{ids, Prefix, Good, InOrder, in-order, Demand3, demand3}
+use Rattle.pair_laws.specs.Model.{Fate, going, asked, granted, turned, broken, Log, blank, Queue, World, swap}
+use Rattle.pair_laws.specs.Statement.{ids, Good, InOrder, in-order, Demand3, demand3}
 use Rattle.pair_laws.proofs.Facts.{Sent}
-use Rattle.pair_laws.proofs.Flow.{Flow, Rest, Past, past-of, past-of-rest}
-use Rattle.pair_laws.proofs.Inv.{Owes, Up, up, down, Un, acked, unacked, Busy, Cut, Last, Left, left-going, left-granted, Broken, near-broken, far-broken, Books, Talk, Severed, Behind, rested, turning, closing, severed, Ahead, Inv, talking, dead, free, free′, opening, opening′, fateOf, called-log, given-log}
+use Rattle.pair_laws.proofs.Flow.{Flow, Rest, past-of, past-of-rest}
+use Rattle.pair_laws.proofs.Inv.{Owes, Up, up, down, Left, left-going, left-granted, Broken, near-broken, far-broken, Books, Talk, Severed, Behind, rested, turning, closing, severed, Inv, talking, dead, free, free′, opening, opening′, fateOf, called-log, given-log}
 
 no-far-broken : (f : Fate) → InOrder f broken → ⊥
 unfolding in-order

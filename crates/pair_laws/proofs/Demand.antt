@@ -3,13 +3,13 @@ use mathlib.Core.Path.{_≡_, refl}
 use mathlib.Core.Option.{Option, none, some}
 use mathlib.Core.Bool.{Bool, true, false}
 use mathlib.Core.List.{List, [], _∷_}
-use Prim.Native.Nat.{ℕ, suc}
+use Prim.Native.Nat.{ℕ}
 use native.Mathlib.Omega.{arith}
-use Rattle.book.specs.Book.{Msg, Reading, refused, vet, on-vetted, on-shot, on-request, bodyOf, State, waitingOf, bar, late, Setup}
+use Rattle.book.specs.Book.{Msg, refused, vet, on-vetted, on-shot, on-request, bodyOf, State, waitingOf, bar, late, Setup}
 use Rattle.book.specs.declared.Terms.{Terms}
 use Rattle.pair_laws.specs.Model.{Log, Queue, End, ask-with, asked-ids, busy, start-comes, act, act-there, World, world, at, swap, Act, request, end, tick, abort, deliver, Side, near, far, do-near, do-at, run, new-end, beginning, ask-near, tick-near, blank}
-use Rattle.pair_laws.specs.Statement.{Theorem, Demand3}
-use Rattle.pair_laws.proofs.Inv.{Inv, Behind, rested, Ahead, resting, Books, free}
+use Rattle.pair_laws.specs.Statement.{Theorem}
+use Rattle.pair_laws.proofs.Inv.{Inv, rested, resting, free}
 use Rattle.pair_laws.proofs.Close.{inv-swap, demanded, good-blank}
 use Rattle.pair_laws.proofs.StepEnd.{inv-end}
 use Rattle.pair_laws.proofs.StepTick.{tick-at, inv-tick}

@@ -3,12 +3,12 @@
 use Prim.Native.Nat.{ℕ}
 use mathlib.Core.Path.{_≡_, refl}
 use mathlib.Core.Bool.{Bool, true, false}
-use mathlib.Core.Option.{Option, none, some}
+use mathlib.Core.Option.{none, some}
 use mathlib.Core.List.{List, [], _∷_, _++_}
 use Rattle.book.specs.declared.Terms.{Terms}
-use Rattle.book.specs.Book.{Body, Msg, plain, sure, Frame, msg, good, Line, start, reply, dat, fin, finOk, cut, lost, success, Out, give, answer, seen, send, State, idle, single, multi, ending, assoc, Setup, Outcome, done, ack}
+use Rattle.book.specs.Book.{Body, Msg, plain, sure, msg, good, start, reply, dat, fin, cut, lost, success, give, answer, seen, send, State, idle, single, multi, ending, assoc, Setup, done, ack}
 use Rattle.book.specs.Book as Book
-use Rattle.pair_laws.specs.Model.{Fate, going, asked, granted, turned, broken, Log, Queue, End, at, World, world, swap, Act, request, end, tick, abort, deliver, Side, near, far, run, beginning}
+use Rattle.pair_laws.specs.Model.{going, asked, granted, turned, broken, Log, Queue, at, World, world, swap, Act, request, end, tick, abort, deliver, Side, near, far, run, beginning}
 use Rattle.pair_laws.specs.Model as Model
 use Rattle.pair_laws.specs.Statement.{in-order, answer-to-next}
 

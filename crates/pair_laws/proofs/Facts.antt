@@ -1,15 +1,14 @@
 -- Small facts.
-use mathlib.Core.Path.{_≡_, refl, sym, _∙_, ap, subst}
-use mathlib.Core.Bool.{Bool, true, false, _||_}
-use mathlib.Core.Option.{Option, none, some}
-use mathlib.Core.List.{List, [], _∷_, _++_, append-assoc, append-nil}
+use mathlib.Core.Path.{_≡_, refl, sym, _∙_, ap}
+use mathlib.Core.Bool.{Bool, true, false}
+use mathlib.Core.Option.{none, some}
+use mathlib.Core.List.{List, [], _∷_, _++_, append-assoc}
 use Prim.Native.Nat.{ℕ, zero, suc}
-use native.Mathlib.Omega.{arith}
 use borrow.Author.Tests.{eq-eqb, eqb-true}
 use lib.Dec.{eqb}
-use Rattle.book.specs.Book.{Body, Kind, ok, Reading, bad, good, Setup, with-seen, seen, Msg, plain, sure, Frame, msg, note, Line, start, reply, dat, fin, finOk, cut, lost, Result, success, failed, uncertain, Out, give, answer, ended, gone, send, idsOf, without, without-in, unsure}
-use Rattle.pair_laws.specs.Model.{Fate, Log, update, purge, Queue, log-all, log-out, answers, emit, World}
-use Rattle.pair_laws.specs.Statement.{ids, Prefix, Good}
+use Rattle.book.specs.Book.{Body, ok, Reading, good, Setup, with-seen, Msg, msg, note, Line, dat, Out, idsOf, without, without-in, unsure}
+use Rattle.pair_laws.specs.Model.{Log, update, purge, Queue, log-all, log-out, answers, emit, World}
+use Rattle.pair_laws.specs.Statement.{ids}
 
 pub eqb-refl : (n : ℕ) → eqb n n ≡ true
 eqb-refl n = eq-eqb n n refl

@@ -1,12 +1,11 @@
 -- One direction of a dialogue, as lists: what one end handed over, what the other's user was given, the successes
 -- told to the first, what it still waits for, the frames on the way (`q`) and on the way back (`back`), and the
 -- identifiers given to the far user that it did not acknowledge (`un`).
-use mathlib.Core.Path.{_≡_, refl, sym, _∙_, ap, subst}
+use mathlib.Core.Path.{_≡_, refl, sym, _∙_, ap}
 use mathlib.Core.Option.{Option}
 use mathlib.Core.List.{List, [], _∷_, _++_, append-assoc, append-nil}
 use Prim.Native.Nat.{ℕ}
 use Rattle.book.specs.Book.{Body, Msg, plain, sure, idsOf}
-
 use Rattle.pair_laws.specs.Statement.{ids, Prefix}
 use Rattle.pair_laws.proofs.Facts.{Sent, mes, confirm, msgs, acks, msgs-append, acks-append, ids-append}
 

@@ -1,15 +1,14 @@
 -- The invariant of a run: which states, queues and logs go together.
-use mathlib.Core.Path.{_≡_, refl, sym, _∙_, ap, subst}
+use mathlib.Core.Path.{_≡_}
 use mathlib.Core.Bool.{Bool, true, false}
 use mathlib.Core.Option.{Option, none, some}
 use mathlib.Core.List.{List, [], _∷_, _++_}
-use Prim.Native.Nat.{ℕ, suc, _≤_, _<_}
-use native.Mathlib.Omega.{arith}
-use Rattle.book.specs.Book.{Body, Kind, ok, Reading, bad, good, bodyOf, Msg, plain, sure, Frame, msg, note, Line, start, reply, dat, fin, finOk, cut, lost, State, idle, single, multi, ending, assoc, Setup, idsOf, waitingOf}
+use Prim.Native.Nat.{ℕ, _≤_, _<_}
+use Rattle.book.specs.Book.{Body, ok, Reading, good, bodyOf, Msg, plain, sure, msg, note, Line, start, reply, fin, finOk, cut, lost, State, idle, single, multi, ending, assoc, Setup, idsOf, waitingOf}
 use Rattle.book.specs.declared.Terms.{Terms}
-use Rattle.pair_laws.specs.Model.{Fate, going, asked, granted, turned, broken, Log, blank, Queue, End, at, World, world, swap, update}
-use Rattle.pair_laws.specs.Statement.{ids, Prefix, Good, InOrder}
-use Rattle.pair_laws.proofs.Facts.{Sent, mes, confirm, dats, update-same, update-other}
+use Rattle.pair_laws.specs.Model.{Fate, going, asked, granted, broken, Log, blank, Queue, at, World, world}
+use Rattle.pair_laws.specs.Statement.{Good}
+use Rattle.pair_laws.proofs.Facts.{Sent, dats}
 use Rattle.pair_laws.proofs.Flow.{Flow, Rest, Past}
 
 -- An end that is in the data phase: what it waits for, and whether it has sent 33.

@@ -1,11 +1,11 @@
 -- What the theorem says in other words.
-use mathlib.Core.Path.{_≡_, refl, sym, _∙_, ap, subst}
+use mathlib.Core.Path.{refl, sym, ap, subst}
 use mathlib.Core.Logic.{_⊎_, inl, inr}
-use mathlib.Core.List.{List, [], _∷_, _++_, List·Memᴰ, List·Memᴰ·head, Memᴰ·append-left, Memᴰ·append-right, List·Memᴰ·append-cases, List·Memᴰ·eq-of-singleton, List·Memᴰ·not-nil}
+use mathlib.Core.List.{List, [], _∷_, List·Memᴰ, List·Memᴰ·head, Memᴰ·append-left, Memᴰ·append-right, List·Memᴰ·append-cases, List·Memᴰ·eq-of-singleton, List·Memᴰ·not-nil}
 use Prim.Native.Nat.{ℕ}
 use Rattle.book.specs.Book.{Msg, plain, sure, idsOf}
 use Rattle.pair_laws.specs.Model.{Log}
-use Rattle.pair_laws.specs.Statement.{Prefix, ids, Good, Confirmed}
+use Rattle.pair_laws.specs.Statement.{ids, Good, Confirmed}
 
 later : {r : ℕ} {ms : List Msg} (m : Msg) → Confirmed r ms → Confirmed r (m ∷ ms)
 later m c = (c .0, Memᴰ·append-right (m ∷ []) (c .1), c .2)

@@ -1,16 +1,15 @@
 -- G-END.
-use mathlib.Core.Path.{_≡_, refl, sym, _∙_, ap, subst, fun-ext}
+use mathlib.Core.Path.{refl, ap}
 use mathlib.Core.Bool.{Bool, true, false}
-use mathlib.Core.Option.{Option, none, some}
-use mathlib.Core.List.{List, [], _∷_, _++_, append-nil}
-use Prim.Native.Nat.{ℕ, suc, _≤_, _<_}
-use Rattle.book.specs.Book.{reply, Frame, fin, on-end, waitingOf}
-use Rattle.pair_laws.specs.Model.{Log, World, world, end-near, act, silent, log-all, log-out, log-sent, log-fate, emit, carry, post, answers, ask, broken, asked}
-use Rattle.pair_laws.specs.Statement.{Good}
-use Rattle.pair_laws.proofs.Facts.{Sent, dats, dats-append}
-use Rattle.pair_laws.proofs.Inv.{Up, up, down, Un, acked, unacked, Busy, in-single, in-multi, in-ending, in-assoc, Cut, Last, Left, Broken, near-broken, far-broken, Books, Talk, Severed, Behind, rested, turning, closing, severed, Ahead, resting, calling-single, calling-multi, stranded-single, stranded-multi, Inv, talking, dead, free, free′, opening, opening′, fateOf, tail}
+use mathlib.Core.Option.{none}
+use mathlib.Core.List.{List, [], _∷_}
+use Prim.Native.Nat.{ℕ}
+use Rattle.book.specs.Book.{reply, on-end, waitingOf}
+use Rattle.pair_laws.specs.Model.{Log, World, end-near, act, silent, log-all, log-out, log-sent, log-fate, emit, carry, post, answers, ask}
+use Rattle.pair_laws.proofs.Facts.{Sent, dats-append}
+use Rattle.pair_laws.proofs.Inv.{up, down, acked, unacked, in-single, in-multi, in-ending, in-assoc, Talk, Severed, rested, turning, closing, severed, resting, calling-single, calling-multi, stranded-single, stranded-multi, Inv, talking, dead, free, free′, opening, opening′, fateOf, tail}
 use Rattle.pair_laws.proofs.Close.{talk-flip, books-flip}
-use Rattle.pair_laws.proofs.Tools.{make-talking, make-dead, make-free, make-left, make-opening′, same-account, ask-broken}
+use Rattle.pair_laws.proofs.Tools.{make-talking, make-dead, make-free, make-opening′, same-account, ask-broken}
 
 pub asking : {a b : Log} {wa wb : List ℕ} {eb : Bool} {qa qb : List Sent} {una unb : List ℕ} →
     Talk a b wa wb false eb qa qb una unb → Talk (log-fate ask a) b wa wb true eb qa qb una unb

@@ -1,16 +1,14 @@
 -- A tick.
-use mathlib.Core.Path.{_≡_, refl, sym, _∙_, ap, subst, fun-ext}
+use mathlib.Core.Path.{refl, sym, ap}
 use mathlib.Core.Bool.{Bool, true, false}
-use mathlib.Core.Option.{Option, none, some}
-use mathlib.Core.List.{List, [], _∷_, _++_, append-nil}
-use Prim.Native.Nat.{ℕ, suc, _≤_, _<_}
-use Rattle.book.specs.Book.{reply, Frame, fin, cut, State, on-tick, fall, waitingOf}
-use Rattle.pair_laws.specs.Model.{Log, at, World, world, act, silent, log-all, log-out, log-sent, log-fate, emit, carry, post, sever, far-inside, inside, set-hung, busy, answers, ask, broken, asked, purge}
-use Rattle.pair_laws.specs.Statement.{Good}
-use Rattle.pair_laws.proofs.Facts.{dats, dats-append, emit-unsure, log-unsure, answers-unsure, eqb-refl, purge-dats, purge-own}
-use Rattle.pair_laws.proofs.Inv.{Owes, Up, up, down, Un, acked, unacked, Busy, in-single, in-multi, in-ending, in-assoc, Cut, by-peer, Last, Left, Broken, near-broken, far-broken, Books, Talk, Severed, Behind, rested, turning, closing, severed, Ahead, resting, calling-single, calling-multi, stranded-single, stranded-multi, Inv, talking, dead, free, free′, opening, opening′, fateOf, tail}
+use mathlib.Core.Option.{none}
+use mathlib.Core.List.{[], _∷_}
+use Rattle.book.specs.Book.{reply, on-tick, fall, waitingOf}
+use Rattle.pair_laws.specs.Model.{at, World, world, act, silent, log-all, log-out, log-sent, emit, carry, post, sever, far-inside, inside, set-hung, busy, answers, purge}
+use Rattle.pair_laws.proofs.Facts.{dats-append, emit-unsure, log-unsure, answers-unsure, eqb-refl, purge-dats}
+use Rattle.pair_laws.proofs.Inv.{up, down, acked, unacked, in-single, in-multi, in-ending, in-assoc, by-peer, rested, turning, closing, severed, resting, calling-single, calling-multi, stranded-single, stranded-multi, Inv, talking, dead, free, free′, opening, opening′, tail}
 use Rattle.pair_laws.proofs.Close.{talk-flip, books-flip, severed-flip, good-severed, good-turning, good-closing, good-flip, up-waits}
-use Rattle.pair_laws.proofs.Tools.{update-id, outside-no, make-talking, make-dead, make-free, make-left, make-opening′, make-ahead, same-account, all-answered, ask-broken, busy-true, up-is-busy, ahead-outside, ahead-purge, ahead-back, behind-purge, purge-tail, sever-talk, sever-again, sever-good}
+use Rattle.pair_laws.proofs.Tools.{update-id, outside-no, make-talking, make-dead, make-free, make-left, make-opening′, make-ahead, same-account, all-answered, busy-true, up-is-busy, ahead-outside, ahead-purge, ahead-back, behind-purge, purge-tail, sever-talk, sever-again, sever-good}
 use Rattle.pair_laws.proofs.StepEnd.{asking, asking-severed}
 
 -- a tick that reaches the limit, or doesn't

@@ -1,21 +1,15 @@
 -- Every delivered line is taken.
-use mathlib.Core.Path.{_≡_, refl, sym, _∙_, ap, subst, fun-ext}
-use mathlib.Core.Bool.{Bool, true, false, _||_}
-use mathlib.Core.Option.{Option, none, some}
-use mathlib.Core.List.{List, [], _∷_, _++_, append-nil, append-assoc}
-use Prim.Native.Nat.{ℕ, suc, _≤_, _<_}
-use native.Mathlib.Omega.{arith}
-use native.Mathlib.Nat.{le-refl}
-use native.Mathlib.Decide.{ℕ-discrete}
-use Rattle.book.specs.Book.{Body, Kind, ok, Reading, bad, good, bodyOf, greet, Msg, plain, sure, Frame, msg, note, Line, start, reply, dat, fin, finOk, cut, lost, Result, success, failed, uncertain, Out, give, answer, ended, gone, send, State, idle, single, multi, ending, assoc, Setup, Outcome, refused, done, idsOf, waitingOf, without, unsure, fall, quiet-fall, on-start, first-contact, on-reply, begun, on-dat, on-fin, on-finOk, on-abort}
+use mathlib.Core.Bool.{Bool, true, false}
+use mathlib.Core.List.{[], _∷_}
+use Prim.Native.Nat.{ℕ}
+use Rattle.book.specs.Book.{greet, Msg, plain, sure, State, Setup, quiet-fall, on-start, first-contact, on-reply, begun, on-dat, on-fin, on-finOk, on-abort}
 use Rattle.book.specs.declared.Terms.{Terms}
-use Rattle.pair_laws.specs.Model.{Fate, going, asked, granted, turned, broken, ask, grant, turn, Log, blank, log-handed, log-fate, log-sent, log-out, log-all, log-heard, answers, Queue, End, at, World, world, update, purge, busy, inside, set-hung, post, sever, far-inside, carry, emit, act, silent, join, fresh, is-start, start-comes, Side, Act, swap, run, beginning, as-heard, on-line}
-use Rattle.pair_laws.specs.Statement.{Good, ids, Prefix, InOrder, Accepted, accepted, answer-to-next, AlwaysTaken}
-use Rattle.pair_laws.proofs.Facts.{Sent, mes, confirm, wire, dats, dats-append, dats-post, emit-unsure, log-unsure, answers-unsure, eqb-refl, eqb-no, purge-dats, purge-own, update-same, update-other, without-first, msgs, acks}
-use Rattle.pair_laws.proofs.Flow.{Flow, Rest, Past, past-of, past-of-rest, past-more, rest-of, rest-given, rest-past-ack, flow-more, flow-plain, flow-acked, flow-unacked, flow-told, flow-past-ack, flow-past-msg, flow-add-ack, flow-add-msg}
-use Rattle.pair_laws.proofs.Inv.{Owes, Up, up, down, Un, acked, unacked, Busy, in-single, in-multi, in-ending, in-assoc, Cut, by-peer, by-provider, Last, last-fin, last-ok, Left, left-going, left-granted, Broken, near-broken, far-broken, Books, Talk, Severed, Reply, reply-plain, reply-sure, called-log, given-log, Behind, rested, turning, closing, severed, Ahead, resting, calling-single, calling-multi, stranded-single, stranded-multi, Inv, talking, dead, free, free′, opening, opening′, fateOf, tail}
-use Rattle.pair_laws.proofs.Close.{inv-swap, talk-flip, books-flip, severed-flip, good-severed, good-talk, good-behind, good-turning, good-closing, good-flip, good-all, good-blank, up-waits, not-broken, not-going}
-use Rattle.pair_laws.proofs.Tools.{update-id, books-near, books-far, outside-no, make-talking, make-dead, make-free, make-left, make-opening′, make-ahead, same-account, all-answered, busy-true, up-is-busy, ahead-outside, ahead-purge, ahead-back, behind-purge, purge-tail, sever-talk, sever-again, sever-good}
+use Rattle.pair_laws.specs.Model.{World, busy, inside, is-start, as-heard, on-line}
+use Rattle.pair_laws.specs.Statement.{Accepted, accepted, answer-to-next, AlwaysTaken}
+use Rattle.pair_laws.proofs.Facts.{mes, confirm, wire, dats, eqb-refl}
+use Rattle.pair_laws.proofs.Inv.{up, down, Busy, in-single, in-multi, in-ending, in-assoc, by-peer, by-provider, last-fin, last-ok, rested, turning, closing, severed, resting, calling-single, calling-multi, stranded-single, stranded-multi, Inv, talking, dead, free, free′, opening, opening′, tail}
+use Rattle.pair_laws.proofs.Close.{inv-swap}
+use Rattle.pair_laws.proofs.Tools.{busy-true}
 use Rattle.pair_laws.proofs.Demand.{inv-of-run}
 
 take-abort : {u : State} (s : Setup) (r : ℕ) → Busy u → Accepted (on-abort s r u)

@@ -1,21 +1,21 @@
 -- Making configurations after a step.
 use mathlib.Core.Path.{_≡_, refl, sym, _∙_, ap, subst, fun-ext}
 use mathlib.Core.Bool.{Bool, true, false}
-use mathlib.Core.Option.{Option, none, some}
+use mathlib.Core.Option.{none}
 use mathlib.Core.List.{List, [], _∷_, _++_, append-nil}
-use Prim.Native.Nat.{ℕ, suc, _≤_, _<_}
+use Prim.Native.Nat.{ℕ, _<_}
 use native.Mathlib.Omega.{arith}
 use native.Mathlib.Decide.{ℕ-discrete}
 use lib.Dec.{eqb}
 use Rattle.octets.specs.Choice.{both}
-use Rattle.book.specs.Book.{Msg, Frame, Line, start, reply, dat, fin, finOk, cut, lost, State, idle, single, multi, ending, assoc, Setup, idsOf, waitingOf}
+use Rattle.book.specs.Book.{Msg, Line, reply, dat, fin, State, idle, single, multi, ending, assoc, Setup, idsOf, waitingOf}
 use Rattle.book.specs.declared.Terms.{Terms}
-use Rattle.pair_laws.specs.Model.{Fate, going, asked, granted, turned, broken, ask, Log, blank, Queue, End, at, World, world, update, purge, inside, busy, log-fate}
+use Rattle.pair_laws.specs.Model.{Fate, broken, ask, Log, Queue, at, world, update, purge, busy, log-fate}
 use Rattle.pair_laws.specs.Statement.{Good}
-use Rattle.pair_laws.proofs.Facts.{Sent, wire, dats, dats-append, update-same, update-other, purge-other, purge-own, purge-dats, eqb-no, eqb-refl}
-use Rattle.pair_laws.proofs.Flow.{Flow, Rest, Past, past-of}
+use Rattle.pair_laws.proofs.Facts.{Sent, wire, dats, dats-append, update-same, update-other, purge-other, purge-own, eqb-no}
+use Rattle.pair_laws.proofs.Flow.{past-of}
 use Rattle.pair_laws.proofs.Close.{books-flip, not-broken}
-use Rattle.pair_laws.proofs.Inv.{Owes, Up, up, down, Un, acked, unacked, Busy, in-single, in-multi, in-ending, in-assoc, Cut, Last, Left, Broken, near-broken, far-broken, Books, Talk, Severed, Behind, rested, turning, closing, severed, Ahead, resting, calling-single, calling-multi, stranded-single, stranded-multi, Inv, talking, dead, free, free′, opening, opening′, fateOf, tail}
+use Rattle.pair_laws.proofs.Inv.{Owes, Up, up, down, Un, Busy, in-single, in-multi, in-ending, in-assoc, Cut, Broken, near-broken, far-broken, Books, Talk, Severed, Behind, rested, turning, closing, severed, Ahead, resting, calling-single, calling-multi, stranded-single, stranded-multi, Inv, talking, dead, free, free′, opening′, tail}
 
 pub update-id : (f : ℕ → Log) (d : ℕ) → update f d (f d) ≡ f
 update-id f d = fun-ext λ n. go n (ℕ-discrete n d)

@@ -6,7 +6,7 @@ use mathlib.Core.List.{List, [], _∷_, _++_}
 use Prim.Native.Nat.{ℕ, suc}
 use lib.Dec.{eqb}
 use Rattle.octets.specs.Choice.{pick, both, either}
-use Rattle.book.specs.Book.{Msg, Frame, msg, note, Reading, bad, good, Line, start, reply, dat, fin, finOk, cut, lost, Result, success, failed, uncertain, Out, give, answer, ended, gone, seen, send, State, idle, single, multi, ending, assoc, Setup, Outcome, refused, done, idsOf, vet, on-request, on-end, late, on-tick, on-start, on-reply, on-dat, on-fin, on-finOk, on-abort}
+use Rattle.book.specs.Book.{Msg, Frame, msg, note, Reading, bad, good, Line, start, reply, dat, fin, finOk, cut, lost, success, failed, uncertain, Out, give, answer, ended, gone, seen, send, State, idle, single, multi, ending, assoc, Setup, Outcome, refused, done, idsOf, vet, on-request, on-end, late, on-tick, on-start, on-reply, on-dat, on-fin, on-finOk, on-abort}
 use Rattle.book.specs.declared.Terms.{Terms}
 
 -- ---------------------------------------------------------------- what an end writes down of a dialogue

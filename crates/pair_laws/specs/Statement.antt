@@ -5,7 +5,7 @@ use mathlib.Core.List.{List, [], _∷_, _++_, List·Memᴰ}
 use Prim.Native.Nat.{ℕ}
 use Rattle.octets.specs.Choice.{pick, both, either}
 use Rattle.book.specs.Book.{Msg, idsOf, Out, State, idle, Setup, Outcome, refused, done}
-use Rattle.pair_laws.specs.Model.{Fate, going, asked, granted, turned, broken, Log, Queue, End, at, World, world, swap, inside, is-start, on-line, as-heard, Side, Act, run, beginning}
+use Rattle.pair_laws.specs.Model.{Fate, going, asked, granted, turned, broken, Log, Queue, at, World, world, swap, inside, is-start, on-line, as-heard, Side, Act, run, beginning}
 
 -- The first list is a prefix of the second.
 abbrev pub Prefix : {A : Type 0} → List A → List A → Type 0
