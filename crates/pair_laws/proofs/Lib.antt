@@ -1,0 +1,14 @@
+pub mod Facts
+pub mod Flow
+pub mod Inv
+pub mod Close
+pub mod Tools
+pub mod StepEnd
+pub mod StepTick
+pub mod StepAsk
+pub mod StepBreak
+pub mod StepHear
+pub mod Demand
+pub mod Taken
+pub mod Readings
+pub mod Examples

@@ -1,0 +1,32 @@
+-- What the theorem says in other words.
+use mathlib.Core.Path.{refl, sym, ap, subst}
+use mathlib.Core.Logic.{_⊎_, inl, inr}
+use mathlib.Core.List.{List, [], _∷_, List·Memᴰ, List·Memᴰ·head, Memᴰ·append-left, Memᴰ·append-right, List·Memᴰ·append-cases, List·Memᴰ·eq-of-singleton, List·Memᴰ·not-nil}
+use Prim.Native.Nat.{ℕ}
+use Rattle.book.specs.Book.{Msg, plain, sure, idsOf}
+use Rattle.pair_laws.specs.Model.{Log}
+use Rattle.pair_laws.specs.Statement.{ids, Good, Confirmed}
+
+later : {r : ℕ} {ms : List Msg} (m : Msg) → Confirmed r ms → Confirmed r (m ∷ ms)
+later m c = (c .0, Memᴰ·append-right (m ∷ []) (c .1), c .2)
+
+first : {ms : List Msg} (m : Msg) → List·Memᴰ m (m ∷ ms)
+first m = List·Memᴰ·head refl
+
+here : (r : ℕ) (m : Msg) (ms : List Msg) → List·Memᴰ r (idsOf m) → Confirmed r (m ∷ ms)
+unfolding idsOf
+here r (plain i ir iq b) ms h = absurd (List·Memᴰ·not-nil h)
+here r (sure i ir iq b) ms h = (sure i ir iq b, first (sure i ir iq b), ap (λ z. z ∷ []) (sym (List·Memᴰ·eq-of-singleton h)))
+
+found : (r : ℕ) (ms : List Msg) → List·Memᴰ r (ids ms) → Confirmed r ms
+unfolding ids
+found r [] h = absurd (List·Memᴰ·not-nil h)
+found r (m ∷ ms) h = go (List·Memᴰ·append-cases (idsOf m) h) (λ k. found r ms k)
+  where
+    go : List·Memᴰ r (idsOf m) ⊎ List·Memᴰ r (ids ms) → (List·Memᴰ r (ids ms) → Confirmed r ms) → Confirmed r (m ∷ ms)
+    go (inl k) rec = here r m ms k
+    go (inr k) rec = later m (rec k)
+
+-- 'Successful delivery' of r was told: a confirmed message with identifier r was already given to the far user.
+pub success-given : {a b : Log} (r : ℕ) → Good a b → List·Memᴰ r (a .okays) → Confirmed r (b .given)
+success-given {a} {b} r g h = found r (b .given) (subst (λ l. List·Memᴰ r l) (g .near-told .1) (Memᴰ·append-left (g .near-told .0) h))
