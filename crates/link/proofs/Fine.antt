@@ -5,7 +5,7 @@ use mathlib.Core.Bool.{Bool, true, false}
 use mathlib.Core.Option.{Option, none, some}
 use mathlib.Core.List.{List, [], _∷_, _++_}
 use native.Mathlib.Omega.{arith}
-use borrow.Author.Tests.{ltb-true, leb-true, le-ltb, ne-eqb}
+use borrow.Author.Tests.{ltb-true, leb-true, le-ltb, ne-eqb, eqb-false}
 use lib.Dec.{eqb, ltb, leb}
 use lib.ListN.{length}
 use Rattle.octets.specs.Choice.{pick, both}
@@ -15,7 +15,7 @@ use Rattle.book.specs.declared.Terms.{Terms}
 use Rattle.book.specs.Sound.{withinLimits}
 use Rattle.book.specs.Book.{Body, Msg, plain, sure, Kind, ok, not-ok, unknown, Frame, msg, note, Reading, bad, good, Line, start, reply, dat, fin, finOk, cut, Result, uncertain, failed, Out, give, answer, ended, gone, seen, send, State, idle, single, multi, ending, assoc, Setup, Outcome, refused, done, settled, idsOf, bodyOf, without, ack, ack-body, local, unsure, refuse-all, with-seen, fall, quiet-fall, vet, bar, on-single, on-multi, on-shot, on-vetted, on-request, on-end, on-tick, greet, first-contact, on-start, result-of, single-result, answered-by, begun, on-reply, noted, left-waiting, on-dat, on-fin, on-finOk, on-abort}
 use Rattle.book.specs.View.{msgMessage, frameMessage}
-use Rattle.sound_laws.proofs.Within.{Within, in-idle, in-single, in-multi, in-ending, in-assoc, Limited, Keepable, both-right}
+use Rattle.sound_laws.proofs.Within.{Rated, Within, in-idle, in-single, in-multi, in-ending, in-assoc, Limited, Keepable, both-right}
 
 -- ---- what is fine
 
@@ -31,7 +31,7 @@ pub data FineHeld : Option Reading → Type 0 where
   held : {r : Reading} → FineRead r → FineHeld (some r)
 
 pub data FineLine : Line → Type 0 where
-  starts : {a : Terms} {h : Option Reading} → FineHeld h → FineLine (start a h)
+  starts : {a : Terms} {h : Option Reading} → Rated a → FineHeld h → FineLine (start a h)
   replies : {b : Bool} {h : Option Reading} → FineHeld h → FineLine (reply b h)
   dats : {r : Reading} → FineRead r → FineLine (dat r)
   fins : FineLine fin
@@ -129,10 +129,19 @@ seen-fine (suc e) f = also seens f
 
 -- ---- 01, 02, 03, 04
 
-module _ (a : Terms) (m : Msg) (al : AllowedFrame (msg m)) where
+-- RER 0 counts as low
+settled-rated : (a : Terms) → a .rer ≤ 2 → Rated (settled a)
+unfolding settled
+settled-rated a h = go (eqb (a .rer) 0) refl
+  where
+    go : (b : Bool) → b ≡ eqb (a .rer) 0 → Rated (record { class = a .class; priority = a .priority; rer = pick b 1 (a .rer) })
+    go true e = record { low = omega arith; high = omega arith }
+    go false e = record { low = let n = eqb-false (a .rer) 0 (sym e) in omega arith; high = omega arith }
+
+module _ (a : Terms) (rated : Rated (settled a)) (m : Msg) (al : AllowedFrame (msg m)) where
   single-fine : (st : State) → FineOutcome (on-single a m st)
   unfolding on-single
-  single-fine idle = one (sends (starts (held (fine al))))
+  single-fine idle = one (sends (starts rated (held (fine al))))
   single-fine (single T w t) = barred
   single-fine (multi T k t) = barred
   single-fine (ending T w t) = barred
@@ -140,7 +149,7 @@ module _ (a : Terms) (m : Msg) (al : AllowedFrame (msg m)) where
 
   multi-fine : (b : Option ℕ) (st : State) → FineOutcome (on-multi b a m st)
   unfolding on-multi
-  multi-fine b idle = one (sends (starts nothing))
+  multi-fine b idle = one (sends (starts rated nothing))
   multi-fine b (single T w t) = barred
   multi-fine b (multi T k t) = barred
   multi-fine b (ending T w t) = barred
@@ -152,15 +161,15 @@ module _ (a : Terms) (m : Msg) (al : AllowedFrame (msg m)) where
   shot-fine false st = single-fine st
   shot-fine true st = multi-fine (bar a m st) st
 
-pub request-fine : (c : Bool) (a : Terms) (r : Reading) (st : State) → Heard r → FineOutcome (on-request c a r st)
+pub request-fine : (c : Bool) (a : Terms) → a .rer ≤ 2 → (r : Reading) (st : State) → Heard r → FineOutcome (on-request c a r st)
 unfolding on-request on-vetted vet
-request-fine c a (bad n) st h = barred
-request-fine c a (good f (suc n)) st h = barred
-request-fine c a (good (note k r i q b) zero) st h = barred
-request-fine true a (good (msg (plain i r q b)) zero) st h = barred
-request-fine false a (good (msg (plain i r q b)) zero) st (whole al) = shot-fine a (plain i r q b) al (bodyOf (plain i r q b) .maintained) st
-request-fine true a (good (msg (sure i r q b)) zero) st (whole al) = shot-fine a (sure i r q b) al (bodyOf (sure i r q b) .maintained) st
-request-fine false a (good (msg (sure i r q b)) zero) st h = barred
+request-fine c a l (bad n) st h = barred
+request-fine c a l (good f (suc n)) st h = barred
+request-fine c a l (good (note k r i q b) zero) st h = barred
+request-fine true a l (good (msg (plain i r q b)) zero) st h = barred
+request-fine false a l (good (msg (plain i r q b)) zero) st (whole al) = shot-fine a (settled-rated a l) (plain i r q b) al (bodyOf (plain i r q b) .maintained) st
+request-fine true a l (good (msg (sure i r q b)) zero) st (whole al) = shot-fine a (settled-rated a l) (sure i r q b) al (bodyOf (sure i r q b) .maintained) st
+request-fine false a l (good (msg (sure i r q b)) zero) st h = barred
 
 pub end-fine : (st : State) → FineOutcome (on-end st)
 unfolding on-end

@@ -87,6 +87,16 @@ pub decodes-bare : (f : Frame) → AllowedFrame f → decode (frameOctets f) ≡
 unfolding frameOctets
 decodes-bare f a = Laws.reads-back (frameMessage f) a
 
+-- nothing stays nothing
+pub none-extended : (xs : List Extension) → extended xs [] ≡ []
+unfolding extended
+none-extended [] = refl
+none-extended (x ∷ xs) = go (added (x ∷ xs) [])
+  where
+    go : (b : Bool) → pick {A = List ℕ} b [] [] ≡ []
+    go true = refl
+    go false = refl
+
 -- ---- its first two octets
 
 record Opens (c : ℕ) (s : List ℕ) : Type 0 where

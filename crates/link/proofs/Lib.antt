@@ -1,3 +1,6 @@
 pub mod Pictures
 pub mod Fine
 pub mod Frames
+pub mod Related
+pub mod Wires
+pub mod Follows

@@ -13,14 +13,10 @@ use Rattle.book.specs.Book.{Outcome, refused, done}
 use Rattle.book.specs.Lines.{lineOf}
 use Rattle.book.specs.Step.{step, turnOf}
 use Rattle.book.specs.declared.Unit.{Unit as Value}
+use Rattle.pair_laws.specs.Model.{Fate, going, broken, ask, grant, turn}
 use Rattle.link.specs.Wire.{kindOf, octets, handedOver, arriving}
 
 -- ---------------------------------------------------------------- what is written down of a dialogue, by end
-
--- How far an end has come toward the dialogue's end: `going`; `asked`, it sent 33; `granted`, it sent 33 and got 14 accepted; `turned`, it is the
--- starter and got 31 rejected; `broken`, an abort.
-pub data Fate : Type 0 where
-  going asked granted turned broken : Fate
 
 -- `handed`: the frames with confirmation 0 or 1 that the unit handed to the link ("in line 30 or 32"), with what a later edition added; `given`:
 -- those that its user was given ("by line 20 or 21"); `told`: those of its answers, lines 22, that say "successful delivery".
@@ -44,30 +40,6 @@ noteTold f l = record { handed = l .handed; given = l .given; told = l .told ++ 
 
 abbrev pub noteFate : (Fate → Fate) → Log → Log
 noteFate g l = record { handed = l .handed; given = l .given; told = l .told; fate = g (l .fate) }
-
--- "at least one end sent 33"
-abbrev pub ask : Fate → Fate
-ask going = asked
-ask asked = asked
-ask granted = granted
-ask turned = turned
-ask broken = broken
-
--- "each that did got 14 accepted"
-abbrev pub grant : Fate → Fate
-grant going = going
-grant asked = granted
-grant granted = granted
-grant turned = turned
-grant broken = broken
-
--- "its starter got 31 rejected"
-abbrev pub turn : Fate → Fate
-turn going = turned
-turn asked = asked
-turn granted = granted
-turn turned = turned
-turn broken = broken
 
 -- "A message here is a frame with confirmation 0 or 1": octet 1
 abbrev pub isMessage : List ℕ → Bool
@@ -139,6 +111,11 @@ abbrev pub answersIn : List (List ℕ) → List ℕ
 answersIn [] = []
 answersIn (line ∷ ls) = pick (eqb (kindOf line) 0x22) (answers (drop 2 line)) [] ++ answersIn ls
 
+-- what the frames of a list name, in order
+abbrev pub named : (List ℕ → List ℕ) → List (List ℕ) → List ℕ
+named g [] = []
+named g (f ∷ fs) = g f ++ named g fs
+
 -- ---------------------------------------------------------------- the pair and its link
 
 -- lines on their way, each with its dialogue, as the end that they go to will hear them
@@ -165,9 +142,13 @@ abbrev pub purge : ℕ → Queue → Queue
 purge d [] = []
 purge d (l ∷ q) = pick (eqb (l .0) d) (purge d q) (l ∷ purge d q)
 
+-- not in Idle
+abbrev pub busy : Value → Bool
+busy u = not (eqb (u .state) 0)
+
 -- "an end still in it": not in Idle, and in this dialogue
 abbrev pub inside : ℕ → End → Bool
-inside d (at u n h f acc ans) = both (not (eqb (u .state) 0)) (eqb n d)
+inside d (at u n h f acc ans) = both (busy u) (eqb n d)
 
 abbrev pub hang : Bool → End → End
 hang h (at u n h′ f acc ans) = at u n h f acc ans
@@ -175,8 +156,7 @@ hang h (at u n h′ f acc ans) = at u n h f acc ans
 -- A line joins the others: "Each direction keeps order, loses and repeats nothing." "Until that end hears or leaves, what it sends in the dialogue is
 -- dropped."
 abbrev pub post : ℕ → List ℕ → World → World
-post d ev (world (at u n true f acc ans) b out inn next) = world (at u n true f acc ans) b out inn next
-post d ev (world (at u n false f acc ans) b out inn next) = world (at u n false f acc ans) b (out ++ ((d, ev) ∷ [])) inn next
+post d ev (world (at u n h f acc ans) b out inn next) = world (at u n h f acc ans) b (pick h out (out ++ ((d, ev) ∷ []))) inn next
 
 -- 35: "takes that dialogue's lines out of both directions and gives 15 … to an end still in it, before anything of a later one"
 abbrev pub sever : ℕ → (farIn : Bool) → World → World
@@ -201,10 +181,6 @@ abbrev pub linesOf : List Extension → Outcome → List (List ℕ)
 linesOf xs (refused n) = []
 linesOf xs (done st os) = map (λ o. handedOver xs (lineOf o)) os
 
-abbrev pub isDone : Outcome → Bool
-isDone (refused n) = false
-isDone (done st os) = true
-
 -- the near unit's outcome at an event in its dialogue, put into the world. `new`: the identifiers accepted with it; `heard`: what the log takes down
 -- of the event itself. A refusal changes nothing.
 unfoldable pub act : (xs : List Extension) (new : List ℕ) (heard : Log → Log) → Outcome → World → World
@@ -213,31 +189,34 @@ act xs new heard (done st os) (world (at u d h f acc ans) b out inn next) =
     carryAll d (linesOf xs (done st os))
     (world (at (turnOf u (done st os) .unit) d h (update f d (noteLines (linesOf xs (done st os)) (heard (f d)))) (acc ++ new) (ans ++ answersIn (linesOf xs (done st os)))) b out inn next)
 
--- the near end goes over to dialogue d
-abbrev pub join : ℕ → World → World
-join d (world (at u d₀ h f acc ans) b out inn next) = world (at u d false f acc ans) b out inn next
-
--- … to a new one
-abbrev pub begin : World → World
-begin (world (at u d₀ h f acc ans) b out inn next) = world (at u next false f acc ans) b out inn (suc next)
+-- the same, of an event that takes the near end into another dialogue: `there` is the world with the end in it
+unfoldable pub act-there : (xs : List Extension) (new : List ℕ) (heard : Log → Log) → Outcome → (here there : World) → World
+act-there xs new heard (refused n) w v = w
+act-there xs new heard (done st os) w v = act xs new heard (done st os) v
 
 -- ---- a user's event, or a tick
 
--- "Starts cross when an end sends 30 while a 30 travels toward it."
+-- the near end goes over to a dialogue of its own making, with a number not used before
+abbrev pub fresh : World → World
+fresh (world (at u d h f acc ans) b out inn next) = world (at u next false f acc ans) b out inn (suc next)
+
+-- a 30 travels in this direction: a 10 for the end that it goes to
 abbrev pub startComes : Queue → Bool
 startComes [] = false
 startComes (l ∷ q) = either (eqb (kindOf (l .1)) 0x10) (startComes q)
 
--- whether an event, of a unit in Idle, begins a dialogue: it is taken, and it is a request
-abbrev pub begins : Value → List ℕ → Outcome → Bool
-begins u ev o = both (eqb (u .state) 0) (both (isDone o) (leb (kindOf ev) 0x02))
+-- A request, 01 or 02. In Idle it begins a dialogue, unless starts would cross: "Starts cross when an end sends 30 while a 30 travels toward it."
+-- "starts don't cross": then it is no step of the run.
+abbrev pub ask-with : List Extension → (new : List ℕ) (inDialogue crosses : Bool) → Outcome → World → World
+ask-with xs new true c o w = act xs new noteNothing o w
+ask-with xs new false true o w = w
+ask-with xs new false false o w = act-there xs new noteNothing o w (fresh w)
 
 unfoldable pub ask-near : List Extension → (ev : List ℕ) → World → World
 ask-near xs ev (world (at u d h f acc ans) b out inn next) =
-    pick (begins u ev (step 1024 u ev))
-    (pick (startComes inn) (world (at u d h f acc ans) b out inn next)
-    (act xs (asksFor ev) noteNothing (step 1024 u ev) (begin (world (at u d h f acc ans) b out inn next))))
-    (act xs (asksFor ev) noteNothing (step 1024 u ev) (world (at u d h f acc ans) b out inn next))
+    pick (leb (kindOf ev) 0x02)
+    (ask-with xs (asksFor ev) (busy u) (startComes inn) (step 1024 u ev) (world (at u d h f acc ans) b out inn next))
+    (act xs [] noteNothing (step 1024 u ev) (world (at u d h f acc ans) b out inn next))
 
 -- "In: 01 transfer and 02 confirmed transfer …; 03 G-END; 04 one tick": what comes from a user or the clock
 abbrev pub fromUser : List ℕ → Bool
@@ -258,9 +237,17 @@ nearInside d (world a b out inn next) = inside d a
 abbrev pub nearUnit : World → Value
 nearUnit (world (at u d h f acc ans) b out inn next) = u
 
+-- the near end goes over to dialogue d, which the far end made
+abbrev pub join : ℕ → World → World
+join d (world (at u n h f acc ans) b out inn next) = world (at u d false f acc ans) b out inn next
+
+abbrev pub hear-start : List Extension → ℕ → List ℕ → World → World
+hear-start xs d ev (world (at u n h f acc ans) b out inn next) =
+    act-there xs [] (noteHeard ev) (step 1024 u ev) (world (at u n h f acc ans) b out inn next) (join d (world (at u n h f acc ans) b out inn next))
+
 -- "an end that has left, by hearing or otherwise, hears no more of that dialogue"
 unfoldable pub reach : List Extension → ℕ → List ℕ → World → World
-reach xs d ev w = pick (eqb (kindOf ev) 0x10) (hear xs ev (join d w)) (pick (nearInside d w) (hear xs (asHeard (nearUnit w) ev) w) w)
+reach xs d ev w = pick (eqb (kindOf ev) 0x10) (hear-start xs d ev w) (pick (nearInside d w) (hear xs (asHeard (nearUnit w) ev) w) w)
 
 abbrev pub deliver-near : List Extension → World → World
 deliver-near xs (world a b out [] next) = world a b out [] next
@@ -283,8 +270,7 @@ break-both d far (world a b out inn next) = world (break-end d true a) (break-en
 -- of the near end's dialogue, where it is in one
 unfoldable pub break-near : World → World
 break-near (world (at u d h f acc ans) b out inn next) =
-    pick (eqb (u .state) 0) (world (at u d h f acc ans) b out inn next)
-    (break-both d (inside d b) (world (at u d h f acc ans) b out inn next))
+    pick (busy u) (break-both d (inside d b) (world (at u d h f acc ans) b out inn next)) (world (at u d h f acc ans) b out inn next)
 
 -- ---------------------------------------------------------------- runs
 

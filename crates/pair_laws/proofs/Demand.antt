@@ -7,7 +7,7 @@ use Prim.Native.Nat.{ℕ}
 use native.Mathlib.Omega.{arith}
 use Rattle.book.specs.Book.{Msg, refused, vet, on-vetted, on-shot, on-request, bodyOf, State, waitingOf, bar, late, Setup}
 use Rattle.book.specs.declared.Terms.{Terms}
-use Rattle.pair_laws.specs.Model.{Log, Queue, End, ask-with, asked-ids, busy, start-comes, act, act-there, World, world, at, swap, Act, request, end, tick, abort, deliver, Side, near, far, do-near, do-at, run, new-end, beginning, ask-near, tick-near, blank}
+use Rattle.pair_laws.specs.Model.{Fields, Log, Queue, End, ask-with, asked-ids, busy, start-comes, act, act-there, World, world, at, swap, Act, request, end, tick, abort, deliver, Side, near, far, do-near, do-at, run, new-end, beginning, ask-near, tick-near, blank}
 use Rattle.pair_laws.specs.Statement.{Theorem}
 use Rattle.pair_laws.proofs.Inv.{Inv, rested, resting, free}
 use Rattle.pair_laws.proofs.Close.{inv-swap, demanded, good-blank}
@@ -23,13 +23,13 @@ unfolding on-shot shot
 shot-is false a m u = refl
 shot-is true a m u = refl
 
-ask-refused : (x : ℕ) (new : List ℕ) (i c : Bool) (n : ℕ) (w : World) → ask-with x new i c (refused n) w ≡ w
+ask-refused : (x : Fields) (new : List ℕ) (i c : Bool) (n : ℕ) (w : World) → ask-with x new i c (refused n) w ≡ w
 unfolding ask-with act act-there
 ask-refused x new true c n w = refl
 ask-refused x new false true n w = refl
 ask-refused x new false false n w = refl
 
-inv-vetted : (x : ℕ) (a : Terms) (o : Option Msg) {s : Setup} {u : State} {d : ℕ} {h : Bool} {f : ℕ → Log} {acc ans : List ℕ} {b : End} {out inn : Queue} {next : ℕ} →
+inv-vetted : (x : Fields) (a : Terms) (o : Option Msg) {s : Setup} {u : State} {d : ℕ} {h : Bool} {f : ℕ → Log} {acc ans : List ℕ} {b : End} {out inn : Queue} {next : ℕ} →
     Inv (world (at s u d h f acc ans) b out inn next) →
     Inv (ask-with x (asked-ids o) (busy u) (start-comes inn) (on-vetted a o u) (world (at s u d h f acc ans) b out inn next))
 unfolding asked-ids on-vetted ask-at

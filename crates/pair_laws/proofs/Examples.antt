@@ -37,10 +37,13 @@ abbrev report : (id : ℕ) → Msg
 report i = sure i none none (body false)
 
 abbrev ask-02 : (fields : ℕ) → Msg → Act
-ask-02 x m = request true x terms (good (msg m) 0)
+ask-02 x m = request true (λ f. x) terms (good (msg m) 0)
+
+abbrev hears : (fields : ℕ) → Act
+hears x = deliver (λ f. x)
 
 abbrev ask-01 : (fields : ℕ) → Msg → Act
-ask-01 x m = request false x terms (good (msg m) 0)
+ask-01 x m = request false (λ f. x) terms (good (msg m) 0)
 
 -- ---- what is seen of a world: of each end the state, its log of one dialogue, the identifiers it took and answered; and the lines on the way
 
@@ -61,14 +64,14 @@ after cs = run cs (beginning G1 A9)
 
 -- The near end starts a dialogue: both are in Associated, the near end's sheet 7 is on the way.
 abbrev opened : (x : ℕ) → List (Side × Act)
-opened x = (near, ask-02 x (sheet 7)) ∷ (far, deliver 0) ∷ (near, deliver x) ∷ []
+opened x = (near, ask-02 x (sheet 7)) ∷ (far, hears 0) ∷ (near, hears x) ∷ []
 
 -- Sheets and confirmations go both ways, then a remark; the near end ends.
 abbrev both-ways : (x y : ℕ) → List (Side × Act)
 both-ways x y =
     opened x
-    ++ ((far, ask-02 y (sheet 9)) ∷ (far, deliver y) ∷ (near, deliver x) ∷ (near, deliver x) ∷ (far, deliver y)
-    ∷ (near, ask-01 x remark) ∷ (far, deliver y) ∷ (near, end) ∷ (far, deliver y) ∷ (near, deliver x) ∷ [])
+    ++ ((far, ask-02 y (sheet 9)) ∷ (far, hears y) ∷ (near, hears x) ∷ (near, hears x) ∷ (far, hears y)
+    ∷ (near, ask-01 x remark) ∷ (far, hears y) ∷ (near, end) ∷ (far, hears y) ∷ (near, hears x) ∷ [])
 
 -- The provider aborts while sheets travel both ways; the far user, who doesn't know, asks for one more.
 abbrev aborted : List (Side × Act)
@@ -76,7 +79,7 @@ aborted = opened 0 ++ ((far, ask-02 0 (sheet 9)) ∷ (near, abort) ∷ (far, ask
 
 -- Both ends send 33 at once.
 abbrev doubled : List (Side × Act)
-doubled = opened 0 ++ ((near, end) ∷ (far, end) ∷ (far, deliver 0) ∷ (far, deliver 0) ∷ [])
+doubled = opened 0 ++ ((near, end) ∷ (far, end) ∷ (far, hears 0) ∷ (far, hears 0) ∷ [])
 
 -- The near end ends, and its timer runs out while the far end's sheet is on the way: 35. It calls again, and the far end, who hasn't heard, sends.
 abbrev timed-out : List (Side × Act)
@@ -86,7 +89,7 @@ timed-out =
 
 -- A single-shot report is given and its reply is on the way; the far end calls back at once, and then the provider aborts the first dialogue.
 abbrev called-back : List (Side × Act)
-called-back = (near, ask-02 0 (report 7)) ∷ (far, deliver 0) ∷ (far, ask-02 0 (sheet 9)) ∷ (near, abort) ∷ []
+called-back = (near, ask-02 0 (report 7)) ∷ (far, hears 0) ∷ (far, ask-02 0 (sheet 9)) ∷ (near, abort) ∷ []
 
 pub record Examples : Type 0 where
   -- Each user has all that the other end handed over, each sheet was told successful, and the dialogue ended in order.
@@ -104,10 +107,10 @@ pub record Examples : Type 0 where
       answer-to-next (swap (after ((near, ask-02 2 (report 7)) ∷ [])))
       ≡ done idle (seen 2 ∷ give terms (report 7) ∷ send (reply false (some (good (ack A9 7 (body false)) 0))) ∷ [])
   pub fields-seen-near :
-      answer-to-next (after ((near, ask-02 2 (report 7)) ∷ (far, deliver 3) ∷ []))
+      answer-to-next (after ((near, ask-02 2 (report 7)) ∷ (far, hears 3) ∷ []))
       ≡ done idle (seen 3 ∷ answer 7 success (ack A9 7 (body false)) ∷ [])
   pub report-confirmed :
-      look 1 (after ((near, ask-02 2 (report 7)) ∷ (far, deliver 3) ∷ (near, deliver 0) ∷ []))
+      look 1 (after ((near, ask-02 2 (report 7)) ∷ (far, hears 3) ∷ (near, hears 0) ∷ []))
       ≡ shown
       (party idle (record { handed = report 7 ∷ []; given = []; okays = 7 ∷ []; fate = turned }) (7 ∷ []) (7 ∷ []))
       (party idle (record { handed = []; given = report 7 ∷ []; okays = []; fate = going }) [] [])
@@ -122,7 +125,7 @@ pub record Examples : Type 0 where
       ((1, lost) ∷ []) ((1, lost) ∷ [])
   -- Both hear it, and answer all that waits; nothing was told successful.
   pub abort-answers :
-      look 1 (after (aborted ++ ((near, deliver 0) ∷ (far, deliver 0) ∷ [])))
+      look 1 (after (aborted ++ ((near, hears 0) ∷ (far, hears 0) ∷ [])))
       ≡ shown
       (party idle (record { handed = sheet 7 ∷ []; given = []; okays = []; fate = broken }) (7 ∷ []) (7 ∷ []))
       (party idle (record { handed = sheet 9 ∷ sheet 10 ∷ []; given = []; okays = []; fate = broken }) (9 ∷ 10 ∷ []) (9 ∷ 10 ∷ []))
@@ -138,7 +141,7 @@ pub record Examples : Type 0 where
       [] ((1, fin) ∷ [])
   -- It comes to the near end as 14 accepted too, and the dialogue ended in order. The sheet was given, and answered (uncertain).
   pub doubled-whole :
-      look 1 (after (doubled ++ ((near, deliver 0) ∷ [])))
+      look 1 (after (doubled ++ ((near, hears 0) ∷ [])))
       ≡ shown
       (party idle (record { handed = sheet 7 ∷ []; given = []; okays = []; fate = granted }) (7 ∷ []) (7 ∷ []))
       (party idle (record { handed = []; given = sheet 7 ∷ []; okays = []; fate = granted }) [] [])
@@ -153,7 +156,7 @@ pub record Examples : Type 0 where
       ((1, cut 2) ∷ (2, start terms none) ∷ []) []
   -- The far end hears both, and is in the second dialogue.
   pub timer-next :
-      look 2 (after (timed-out ++ ((far, deliver 0) ∷ (far, deliver 0) ∷ (near, deliver 0) ∷ (far, deliver 0) ∷ [])))
+      look 2 (after (timed-out ++ ((far, hears 0) ∷ (far, hears 0) ∷ (near, hears 0) ∷ (far, hears 0) ∷ [])))
       ≡ shown
       (party (assoc terms (8 ∷ []) 0) (record { handed = sheet 8 ∷ []; given = []; okays = []; fate = going }) (7 ∷ 8 ∷ []) (7 ∷ []))
       (party (assoc terms [] 0) (record { handed = []; given = sheet 8 ∷ []; okays = []; fate = going }) (9 ∷ 10 ∷ []) (9 ∷ 10 ∷ []))
@@ -166,7 +169,7 @@ pub record Examples : Type 0 where
       (party (multi terms (sheet 9) 0) (record { handed = []; given = report 7 ∷ []; okays = []; fate = going }) (9 ∷ []) [])
       [] ((1, lost) ∷ (2, start terms none) ∷ [])
   pub later-taken :
-      look 2 (after (called-back ++ ((near, deliver 0) ∷ (near, deliver 0) ∷ [])))
+      look 2 (after (called-back ++ ((near, hears 0) ∷ (near, hears 0) ∷ [])))
       ≡ shown
       (party (assoc terms [] 0) (record { handed = []; given = []; okays = []; fate = going }) (7 ∷ []) (7 ∷ []))
       (party (multi terms (sheet 9) 0) (record { handed = []; given = []; okays = []; fate = going }) (9 ∷ []) [])

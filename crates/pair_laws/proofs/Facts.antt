@@ -7,7 +7,7 @@ use Prim.Native.Nat.{ℕ, zero, suc}
 use borrow.Author.Tests.{eq-eqb, eqb-true}
 use lib.Dec.{eqb}
 use Rattle.book.specs.Book.{Body, ok, Reading, good, Setup, with-seen, Msg, msg, note, Line, dat, Out, idsOf, without, without-in, unsure}
-use Rattle.pair_laws.specs.Model.{Log, update, purge, Queue, log-all, log-out, answers, emit, World}
+use Rattle.pair_laws.specs.Model.{Fields, Log, update, purge, Queue, log-all, log-out, answers, emit, World}
 use Rattle.pair_laws.specs.Statement.{ids}
 
 pub eqb-refl : (n : ℕ) → eqb n n ≡ true
@@ -84,7 +84,7 @@ unfolding answers unsure
 answers-unsure s k [] os = refl
 answers-unsure s k (i ∷ w) os = ap (λ v. i ∷ v) (answers-unsure s k w os)
 
-pub emit-unsure : (x d : ℕ) (s : Setup) (k : Bool) (w : List ℕ) (os : List Out) (v : World) → emit x d (unsure s k w os) v ≡ emit x d os v
+pub emit-unsure : (x : Fields) (d : ℕ) (s : Setup) (k : Bool) (w : List ℕ) (os : List Out) (v : World) → emit x d (unsure s k w os) v ≡ emit x d os v
 unfolding emit unsure
 emit-unsure x d s k [] os v = refl
 emit-unsure x d s k (i ∷ w) os v = emit-unsure x d s k w os v
@@ -100,7 +100,7 @@ unfolding answers with-seen
 answers-seen zero os = refl
 answers-seen (suc n) os = refl
 
-pub emit-seen : (x d e : ℕ) (os : List Out) (v : World) → emit x d (with-seen e os) v ≡ emit x d os v
+pub emit-seen : (x : Fields) (d e : ℕ) (os : List Out) (v : World) → emit x d (with-seen e os) v ≡ emit x d os v
 unfolding emit with-seen
 emit-seen x d zero os v = refl
 emit-seen x d (suc n) os v = refl

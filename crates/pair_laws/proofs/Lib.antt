@@ -12,3 +12,4 @@ pub mod Demand
 pub mod Taken
 pub mod Readings
 pub mod Examples
+pub mod Named

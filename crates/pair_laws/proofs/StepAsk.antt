@@ -8,7 +8,7 @@ use native.Mathlib.Omega.{arith}
 use native.Mathlib.Nat.{le-refl}
 use Rattle.book.specs.Book.{good, bodyOf, settled, Msg, msg, start, reply, State, single, multi, Setup, Outcome, idsOf, waitingOf, on-single, on-multi}
 use Rattle.book.specs.declared.Terms.{Terms}
-use Rattle.pair_laws.specs.Model.{Log, blank, log-handed, log-sent, log-out, log-all, answers, Queue, at, World, world, update, busy, post, carry, emit, act, silent, fresh, is-start, start-comes, ask-with, act-there, extended, with-fields, log-read}
+use Rattle.pair_laws.specs.Model.{Fields, Log, blank, log-handed, log-sent, log-out, log-all, answers, Queue, at, World, world, update, busy, post, carry, emit, act, silent, fresh, is-start, start-comes, ask-with, act-there, extended, with-fields, log-read}
 use Rattle.pair_laws.specs.Statement.{Good, ids}
 use Rattle.pair_laws.proofs.Facts.{Sent, mes, wire, dats-post}
 use Rattle.pair_laws.proofs.Flow.{past-more, flow-more, flow-add-msg}
@@ -69,16 +69,16 @@ unfoldable pub shot : (bar : Option ℕ) (maintained : Bool) → Terms → Msg �
 shot c false a m st = on-single a m st
 shot c true a m st = on-multi c a m st
 
-unfoldable pub ask-at : (bar : Option ℕ) (maintained : Bool) (x : ℕ) → Terms → Msg → World → World
+unfoldable pub ask-at : (bar : Option ℕ) (maintained : Bool) (x : Fields) → Terms → Msg → World → World
 ask-at c k x a m (world (at s u d h f acc ans) b out inn next) =
     ask-with x (idsOf m) (busy u) (start-comes inn) (shot c k a m u) (world (at s u d h f acc ans) b out inn next)
 
-pub inv-ask : (c : Option ℕ) (k : Bool) (x : ℕ) (a : Terms) (m : Msg) → bodyOf m .maintained ≡ k → {w : World} → Inv w → Inv (ask-at c k x a m w)
+pub inv-ask : (c : Option ℕ) (k : Bool) (x : Fields) (a : Terms) (m : Msg) → bodyOf m .maintained ≡ k → {w : World} → Inv w → Inv (ask-at c k x a m w)
 unfolding ask-at shot ask-with act-there busy extended with-fields on-single on-multi fresh start-comes is-start act silent log-all log-out log-sent emit carry post answers waitingOf tail log-read wire
 inv-ask c false x o m sh (talking up b f e v k p q) = talking up b f e v k p q
 inv-ask (some n) true x o m sh (talking up b f e v k p q) = talking up b f e v k p q
 inv-ask none true x o m sh (talking {d = d} {qa = qa} {qb = qb} up b f e v k p q) =
-    make-talking _ k (qa ++ (mes m x ∷ [])) qb up b f e (sending m x v) (more-owed m p) q (dats-post d qa _) refl
+    make-talking _ k (qa ++ (mes m (x (msg m)) ∷ [])) qb up b f e (sending m (x (msg m)) v) (more-owed m p) q (dats-post d qa _) refl
 inv-ask c false x o m sh (talking down b f e v k p q) = talking down b f e v k p q
 inv-ask c true x o m sh (talking down b f e v k p q) = talking down b f e v k p q
 inv-ask c false x o m sh (dead in-single b f e v k p q) = dead in-single b f e v k p q
@@ -89,9 +89,9 @@ inv-ask c false x o m sh (dead in-ending b f e v k p q) = dead in-ending b f e v
 inv-ask c true x o m sh (dead in-ending b f e v k p q) = dead in-ending b f e v k p q
 inv-ask c false x o m sh (dead in-assoc b f e v k p q) = dead in-assoc b f e v k p q
 inv-ask (some n) true x o m sh (dead in-assoc b f e v k p q) = dead in-assoc b f e v k p q
-inv-ask none true x o m sh (dead in-assoc b f e v k p q) = make-dead _ k in-assoc b f e (sending-severed m x v) (more-owed m p) q
+inv-ask none true x o m sh (dead in-assoc b f e v k p q) = make-dead _ k in-assoc b f e (sending-severed m (x (msg m)) v) (more-owed m p) q
 inv-ask c false x o m sh (free {e = e} {g = g} (rested h) (resting lt) k p q) =
-    begin-single (settled o) m x sh (rested (good-flip (good-all k h e))) (books-rebase (books-flip k) (good-flip h) lt) q p refl
+    begin-single (settled o) m (x (msg m)) sh (rested (good-flip (good-all k h e))) (books-rebase (books-flip k) (good-flip h) lt) q p refl
 inv-ask c true x o m sh (free {e = e} (rested h) (resting lt) k p q) =
     begin-multi (settled o) m (rested (good-flip (good-all k h e))) (books-rebase (books-flip k) (good-flip h) lt) q p refl
 inv-ask c false x o m sh (free (rested h) (calling-single z a y ne lt) k p q) = free (rested h) (calling-single z a y ne lt) k p q
@@ -99,11 +99,11 @@ inv-ask c true x o m sh (free (rested h) (calling-single z a y ne lt) k p q) = f
 inv-ask c false x o m sh (free (rested h) (calling-multi a y ne lt) k p q) = free (rested h) (calling-multi a y ne lt) k p q
 inv-ask c true x o m sh (free (rested h) (calling-multi a y ne lt) k p q) = free (rested h) (calling-multi a y ne lt) k p q
 inv-ask c false x o m sh (free (rested h) (stranded-single a v ne lt) k p q) =
-    begin-single (settled o) m x sh (severed in-single a v) (books-rebase (books-flip k) (good-flip h) lt) q p refl
+    begin-single (settled o) m (x (msg m)) sh (severed in-single a v) (books-rebase (books-flip k) (good-flip h) lt) q p refl
 inv-ask c true x o m sh (free (rested h) (stranded-single a v ne lt) k p q) =
     begin-multi (settled o) m (severed in-single a v) (books-rebase (books-flip k) (good-flip h) lt) q p refl
 inv-ask c false x o m sh (free (rested h) (stranded-multi a v ne lt) k p q) =
-    begin-single (settled o) m x sh (severed in-multi a v) (books-rebase (books-flip k) (good-flip h) lt) q p refl
+    begin-single (settled o) m (x (msg m)) sh (severed in-multi a v) (books-rebase (books-flip k) (good-flip h) lt) q p refl
 inv-ask c true x o m sh (free (rested h) (stranded-multi a v ne lt) k p q) =
     begin-multi (settled o) m (severed in-multi a v) (books-rebase (books-flip k) (good-flip h) lt) q p refl
 inv-ask c false x o m sh (free (turning r a y) b k p q) = free (turning r a y) b k p q
@@ -118,8 +118,8 @@ inv-ask c false x o m sh (free (severed in-ending y v) b k p q) = free (severed 
 inv-ask c true x o m sh (free (severed in-ending y v) b k p q) = free (severed in-ending y v) b k p q
 inv-ask c false x o m sh (free (severed in-assoc y v) b k p q) = free (severed in-assoc y v) b k p q
 inv-ask (some n) true x o m sh (free (severed in-assoc y v) b k p q) = free (severed in-assoc y v) b k p q
-inv-ask none true x o m sh (free (severed in-assoc y v) b k p q) = make-free _ k (severed in-assoc y (sending-severed m x v)) b (more-owed m p) q refl
-inv-ask c false x o m sh (free′ {cl = cl} a (resting lt) k p q) = begin-single (settled o) m x sh a k p q (after-nil cl _)
+inv-ask none true x o m sh (free (severed in-assoc y v) b k p q) = make-free _ k (severed in-assoc y (sending-severed m (x (msg m)) v)) b (more-owed m p) q refl
+inv-ask c false x o m sh (free′ {cl = cl} a (resting lt) k p q) = begin-single (settled o) m (x (msg m)) sh a k p q (after-nil cl _)
 inv-ask c true x o m sh (free′ {cl = cl} a (resting lt) k p q) = begin-multi (settled o) m a k p q (after-nil cl _)
 inv-ask c false x o m sh (free′ a (calling-single z b y ne lt) k p q) = free′ a (calling-single z b y ne lt) k p q
 inv-ask c true x o m sh (free′ a (calling-single z b y ne lt) k p q) = free′ a (calling-single z b y ne lt) k p q
@@ -134,6 +134,6 @@ inv-ask c true x o m sh (opening a b v k p q) = opening a b v k p q
 inv-ask c false x o m sh (opening′ up b v k p q) = opening′ up b v k p q
 inv-ask (some n) true x o m sh (opening′ up b v k p q) = opening′ up b v k p q
 inv-ask none true x o m sh (opening′ {d = d} {qb = qb} up b v k p q) =
-    make-opening′ _ (books-flip k) (qb ++ (mes m x ∷ [])) up b (talk-flip (sending m x (talk-flip v))) (more-owed m q) p (ap (λ z. (d, reply true none) ∷ z) (dats-post d qb _))
+    make-opening′ _ (books-flip k) (qb ++ (mes m (x (msg m)) ∷ [])) up b (talk-flip (sending m (x (msg m)) (talk-flip v))) (more-owed m q) p (ap (λ z. (d, reply true none) ∷ z) (dats-post d qb _))
 inv-ask c false x o m sh (opening′ down b v k p q) = opening′ down b v k p q
 inv-ask c true x o m sh (opening′ down b v k p q) = opening′ down b v k p q

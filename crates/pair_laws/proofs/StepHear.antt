@@ -4,8 +4,8 @@ use mathlib.Core.Bool.{Bool, true, false}
 use mathlib.Core.Option.{Option, some}
 use mathlib.Core.List.{List, [], _∷_, _++_, append-nil, append-assoc}
 use Prim.Native.Nat.{ℕ}
-use Rattle.book.specs.Book.{Body, Msg, plain, sure, State, idle, single, multi, ending, assoc, Setup, idsOf, waitingOf, without, quiet-fall, on-start, first-contact, on-reply, begun, answered-by, on-dat, on-fin, on-finOk, on-abort, greet, result-of, single-result, noted, left-waiting, ack, ack-body}
-use Rattle.pair_laws.specs.Model.{grant, turn, Log, blank, log-handed, log-fate, log-sent, log-out, log-all, log-heard, answers, World, busy, inside, post, carry, emit, act, join, is-start, on-line, deliver-near, reach, hear, hear-start, act-there, extended, with-fields, near-inside, near-state, as-heard, log-read, log-given, log-okay}
+use Rattle.book.specs.Book.{msg, Body, Msg, plain, sure, State, idle, single, multi, ending, assoc, Setup, idsOf, waitingOf, without, quiet-fall, on-start, first-contact, on-reply, begun, answered-by, on-dat, on-fin, on-finOk, on-abort, greet, result-of, single-result, noted, left-waiting, ack, ack-body}
+use Rattle.pair_laws.specs.Model.{Fields, grant, turn, Log, blank, log-handed, log-fate, log-sent, log-out, log-all, log-heard, answers, World, busy, inside, post, carry, emit, act, join, is-start, on-line, deliver-near, reach, hear, hear-start, act-there, extended, with-fields, near-inside, near-state, as-heard, log-read, log-given, log-okay}
 use Rattle.pair_laws.specs.Statement.{Good, ids}
 use Rattle.pair_laws.proofs.Facts.{Sent, mes, confirm, wire, log-seen, answers-seen, emit-seen, dats, dats-append, dats-post, emit-unsure, log-unsure, answers-unsure, eqb-refl, without-first, msgs, acks}
 use Rattle.pair_laws.proofs.Flow.{Flow, Rest, past-of, past-of-rest, rest-of, rest-given, rest-past-ack, flow-plain, flow-acked, flow-unacked, flow-told, flow-past-ack, flow-past-msg, flow-add-ack}
@@ -85,7 +85,7 @@ good-turned-ok : (i : ℕ) (ir : Option ℕ) (iq : Option (List ℕ)) (n : Body)
 unfolding log-fate log-okay called-log given-log ids idsOf
 good-turned-ok i ir iq n ea eb = rw (ea, eb) (record { to-far = ([], refl); to-near = ([], refl); near-told = ([], refl); far-told = ([], refl); whole = λ o. (refl, refl) })
 
-pub inv-hear : (x : ℕ) {w : World} → Inv w → Inv (deliver-near x w)
+pub inv-hear : (x : Fields) {w : World} → Inv w → Inv (deliver-near x w)
 unfolding deliver-near reach hear hear-start act-there is-start extended with-fields ack single-result noted left-waiting near-inside near-state as-heard inside busy on-line on-start first-contact on-reply begun answered-by on-dat on-fin on-finOk quiet-fall act join log-heard log-all log-out log-sent emit carry post answers waitingOf tail dats idsOf fateOf log-fate grant blank given-log log-handed on-abort greet result-of log-read log-given log-okay wire shotOf
 inv-hear x (talking {qb = []} a up c e v k p q) = talking {qb = []} a up c e v k p q
 inv-hear x (talking {d = d} {qa = qa} {qb = []} up down c e v k p q) =
@@ -97,7 +97,7 @@ inv-hear x (talking {d = d} {qa = qa} {qb = []} down down c e v k p q) =
 inv-hear x (talking {qa = qa} {qb = mes (plain j jr jq n) y ∷ qs} up b c e v k p q) =
     simp (eqb-refl, log-seen, answers-seen, emit-seen) (make-talking _ k qa qs up b c e (hear-plain j jr jq n y v) (same-account p) q refl refl)
 inv-hear x (talking {s = s} {d = d} {qa = qa} {qb = mes (sure i ir iq n) y ∷ qs} up b acked e v k p q) =
-    simp (eqb-refl, log-seen, answers-seen, emit-seen) (make-talking _ k (qa ++ (confirm i (s .name, ack-body n, x) ∷ [])) qs up b acked e (hear-sure i ir iq n y _ v) (same-account p) q (dats-post d qa _) refl)
+    simp (eqb-refl, log-seen, answers-seen, emit-seen) (make-talking _ k (qa ++ (confirm i (s .name, ack-body n, x (ack s i n)) ∷ [])) qs up b acked e (hear-sure i ir iq n y _ v) (same-account p) q (dats-post d qa _) refl)
 inv-hear x (talking {qa = qa} {qb = confirm r y ∷ qs} up b c e v k p q) =
     let o = owed-first r y (v .to-far) in
     simp (eqb-refl, log-seen, answers-seen, emit-seen, without-eq r o) (make-talking _ k qa qs up b c e (hear-ack r y v) (told-owes r o p) q refl refl)
@@ -156,5 +156,5 @@ inv-hear x (free′ a (stranded-multi by-provider v ne lt) k p q) =
     simp (eqb-refl, emit-unsure, log-unsure, answers-unsure)
     (make-ahead _ a (resting lt) k (good-flip (good-severed (sever-again v))) lt ne p (all-answered q) refl)
 inv-hear x (opening {k = m} {qb = qb} a b v k p q) =
-    rw eqb-refl (make-talking _ k ([] ++ (mes m x ∷ [])) qb up a acked b (sending m x v) (same-account p) q refl refl)
+    rw eqb-refl (make-talking _ k ([] ++ (mes m (x (msg m)) ∷ [])) qb up a acked b (sending m (x (msg m)) v) (same-account p) q refl refl)
 inv-hear x (opening′ a b v k p q) = opening′ a b v k p q

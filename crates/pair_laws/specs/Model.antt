@@ -171,12 +171,18 @@ set-hung h (at s u n h′ f acc ans) = at s u n h f acc ans
 
 -- ---------------------------------------------------------------- the near end sends
 
--- Edition 1 writes no extension fields; a later edition may. x is the number of extension fields in the frame that this step hands to the link.
-unfoldable pub with-fields : (x : ℕ) → Reading → Reading
-with-fields x (bad n) = bad n
-with-fields x (good f n) = good f x
+-- Edition 1 writes no extension fields; a later edition may. x says, for a frame that this step hands to the link, how many it adds.
+abbrev pub Fields : Type 0
+Fields = Frame → ℕ
 
-unfoldable pub extended : (x : ℕ) → Line → Line
+abbrev pub no-fields : Fields
+no-fields f = 0
+
+unfoldable pub with-fields : (x : Fields) → Reading → Reading
+with-fields x (bad n) = bad n
+with-fields x (good f n) = good f (x f)
+
+unfoldable pub extended : (x : Fields) → Line → Line
 extended x (start a none) = start a none
 extended x (start a (some r)) = start a (some (with-fields x r))
 extended x (reply b none) = reply b none
@@ -203,7 +209,7 @@ sever d r true (world a b out inn next) = world (set-hung false a) (set-hung tru
 sever d r false (world a b out inn next) = world (set-hung false a) b (purge d out) (purge d inn) next
 
 -- The near end hands a line of its dialogue to the link. (`lost` is the provider's; no unit sends it.)
-unfoldable pub carry : (x d : ℕ) → Line → World → World
+unfoldable pub carry : (x : Fields) (d : ℕ) → Line → World → World
 carry x d (start a f) w = post d (extended x (start a f)) w
 carry x d (reply a f) w = post d (extended x (reply a f)) w
 carry x d (dat f) w = post d (extended x (dat f)) w
@@ -213,7 +219,7 @@ carry x d (cut r) w = sever d r (far-inside d w) w
 carry x d lost w = w
 
 -- Of a step's output lines, 30 to 35 go to the link, in order; the others are the user's.
-unfoldable pub emit : (x d : ℕ) → List Out → World → World
+unfoldable pub emit : (x : Fields) (d : ℕ) → List Out → World → World
 emit x d [] w = w
 emit x d (give a m ∷ os) w = emit x d os w
 emit x d (answer i k f ∷ os) w = emit x d os w
@@ -224,13 +230,13 @@ emit x d (send l ∷ os) w = emit x d os (carry x d l w)
 
 -- The near unit's outcome of an event in its dialogue, put into the world; a refusal changes nothing. `new`: the identifiers that the unit took
 -- with the event; `heard`: what the log takes down of the event itself.
-unfoldable pub act : (x : ℕ) (new : List ℕ) (heard : Log → Log) → Outcome → World → World
+unfoldable pub act : (x : Fields) (new : List ℕ) (heard : Log → Log) → Outcome → World → World
 act x new heard (refused n) w = w
 act x new heard (done u os) (world (at s u₀ d h f acc ans) b out inn next) =
     emit x d os (world (at s u d h (update f d (log-all os (heard (f d)))) (acc ++ new) (ans ++ answers os)) b out inn next)
 
 -- The same, of an event that takes the near end into another dialogue: `there` is the world with the end in it.
-unfoldable pub act-there : (x : ℕ) (new : List ℕ) (heard : Log → Log) → Outcome → (here there : World) → World
+unfoldable pub act-there : (x : Fields) (new : List ℕ) (heard : Log → Log) → Outcome → (here there : World) → World
 act-there x new heard (refused n) w v = w
 act-there x new heard (done u os) w v = act x new heard (done u os) v
 
@@ -256,7 +262,7 @@ start-comes (l ∷ q) = either (is-start (l .1)) (start-comes q)
 
 -- A request with the rule book's outcome. In a dialogue it is an event of that dialogue. In Idle it begins one by 30, unless starts would cross:
 -- "Starts cross when an end sends 30 while a 30 travels toward it." Demand 3 is about runs without that, so then it is no step of the run.
-unfoldable pub ask-with : (x : ℕ) (new : List ℕ) (in-dialogue crosses : Bool) → Outcome → World → World
+unfoldable pub ask-with : (x : Fields) (new : List ℕ) (in-dialogue crosses : Bool) → Outcome → World → World
 ask-with x new true c o w = act x new silent o w
 ask-with x new false true o w = w
 ask-with x new false false o w = act-there x new silent o w (fresh w)
@@ -266,18 +272,18 @@ unfoldable pub asked-ids : Option Msg → List ℕ
 asked-ids none = []
 asked-ids (some m) = idsOf m
 
-unfoldable pub ask-near : (confirmed : Bool) (x : ℕ) → Terms → Reading → World → World
+unfoldable pub ask-near : (confirmed : Bool) (x : Fields) → Terms → Reading → World → World
 ask-near c x a r (world (at s u d h f acc ans) b out inn next) =
     ask-with x (asked-ids (vet c r)) (busy u) (start-comes inn) (on-request c a r u) (world (at s u d h f acc ans) b out inn next)
 
 -- ---------------------------------------------------------------- 03 and 04 at the near end
 
 unfoldable pub end-near : World → World
-end-near (world (at s u d h f acc ans) b out inn next) = act 0 [] silent (on-end u) (world (at s u d h f acc ans) b out inn next)
+end-near (world (at s u d h f acc ans) b out inn next) = act no-fields [] silent (on-end u) (world (at s u d h f acc ans) b out inn next)
 
 unfoldable pub tick-near : World → World
 tick-near (world (at s u d h f acc ans) b out inn next) =
-    act 0 [] silent (on-tick s (late s u) u) (world (at s u d h f acc ans) b out inn next)
+    act no-fields [] silent (on-tick s (late s u) u) (world (at s u d h f acc ans) b out inn next)
 
 -- ---------------------------------------------------------------- the near end hears
 
@@ -306,7 +312,7 @@ as-heard u (cut r) = cut r
 as-heard u lost = lost
 
 -- The near unit hears a line of its dialogue, which the queue no longer has.
-unfoldable pub hear : (x : ℕ) → Line → World → World
+unfoldable pub hear : (x : Fields) → Line → World → World
 hear x l (world (at s u d h f acc ans) b out inn next) = act x [] (log-heard l) (on-line s l u) (world (at s u d h f acc ans) b out inn next)
 
 -- The near end goes over to dialogue d, which the far end made.
@@ -314,16 +320,16 @@ unfoldable pub join : (d : ℕ) → World → World
 join d (world (at s u n h f acc ans) b out inn next) = world (at s u d false f acc ans) b out inn next
 
 -- 10 takes the near end into dialogue d.
-unfoldable pub hear-start : (x d : ℕ) → Line → World → World
+unfoldable pub hear-start : (x : Fields) (d : ℕ) → Line → World → World
 hear-start x d l (world (at s u n h f acc ans) b out inn next) =
     act-there x [] (log-heard l) (on-line s l u) (world (at s u n h f acc ans) b out inn next) (join d (world (at s u n h f acc ans) b out inn next))
 
 -- A line of dialogue d comes to the near end: "an end that has left, by hearing or otherwise, hears no more of that dialogue".
-unfoldable pub reach : (x d : ℕ) → Line → World → World
+unfoldable pub reach : (x : Fields) (d : ℕ) → Line → World → World
 reach x d l w = pick (is-start l) (hear-start x d l w) (pick (near-inside d w) (hear x (as-heard (near-state w) l) w) w)
 
 -- The next line toward the near end is delivered, if there is one.
-unfoldable pub deliver-near : (x : ℕ) → World → World
+unfoldable pub deliver-near : (x : Fields) → World → World
 deliver-near x (world a b out [] next) = world a b out [] next
 deliver-near x (world a b out (l ∷ inn) next) = reach x (l .0) (l .1) (world a b out inn next)
 
@@ -351,11 +357,11 @@ break-near (world (at s u d h f acc ans) b out inn next) =
 -- ---------------------------------------------------------------- runs
 
 -- What can happen at an end: a request, 01 or (true) 02; G-END, 03; a tick, 04; the next line toward it is delivered; the provider aborts its
--- dialogue. The two that can make a unit hand a frame to the link carry the number of that frame's extension fields.
+-- dialogue. The two that can make a unit hand a frame to the link carry how many extension fields that frame gets.
 pub data Act : Type 0 where
-  request : (confirmed : Bool) (fields : ℕ) (terms : Terms) → Reading → Act
+  request : (confirmed : Bool) (fields : Fields) (terms : Terms) → Reading → Act
   end tick abort : Act
-  deliver : (fields : ℕ) → Act
+  deliver : (fields : Fields) → Act
 
 unfoldable pub do-near : Act → World → World
 do-near (request c x a r) w = ask-near c x a r w
