@@ -1,4 +1,4 @@
--- What the theorem says in other words.
+-- What demand 3 says in other words: a success names a confirmed message that was given. Closed by finding the identifier in the list.
 use mathlib.Core.Path.{refl, sym, ap, subst}
 use mathlib.Core.Logic.{_⊎_, inl, inr}
 use mathlib.Core.List.{List, [], _∷_, List·Memᴰ, List·Memᴰ·head, Memᴰ·append-left, Memᴰ·append-right, List·Memᴰ·append-cases, List·Memᴰ·eq-of-singleton, List·Memᴰ·not-nil}
