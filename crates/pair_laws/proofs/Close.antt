@@ -74,8 +74,7 @@ good-turning m ea eb = rw (ea, eb) (record {
   to-far = ([], refl);
   to-near = ([], refl);
   near-told = (idsOf m ++ [], refl);
-  far-told =
-      ([], refl);
+  far-told = ([], refl);
   whole = λ o. absurd (not-going o);
 })
 

@@ -24,8 +24,7 @@ sending m x v = record {
   to-far = flow-more m x (v .to-far);
   to-near = flow-add-msg m x (v .to-near);
   near-fate = v .near-fate;
-  far-fate =
-      v .far-fate;
+  far-fate = v .far-fate;
 }
 
 sending-severed : {a b : Log} (m : Msg) (x : ℕ) → Severed a b → Severed (log-handed (msg m) a) b
@@ -52,8 +51,7 @@ good-called m = record {
   to-near = (m ∷ [], refl);
   near-told = ([], refl);
   far-told = ([], refl);
-  whole =
-      λ o. absurd (not-going o);
+  whole = λ o. absurd (not-going o);
 }
 
 after-nil : (cl st : Queue) → (cl ++ []) ++ st ≡ cl ++ st

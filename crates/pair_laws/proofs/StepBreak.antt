@@ -15,8 +15,7 @@ sever-from-good : {a b : Log} → Good a b → Severed (log-fate (λ f. broken) 
 unfolding log-fate
 sever-from-good g = record {
   to-far = record { first = g .to-far; told = g .near-told };
-  to-near =
-      record { first = g .to-near; told = g .far-told };
+  to-near = record { first = g .to-near; told = g .far-told };
   broke = near-broken;
 }
 

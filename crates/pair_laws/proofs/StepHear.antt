@@ -42,8 +42,7 @@ unfolding log-given log-okay
 hear-plain j jr jq n x v = record {
   to-far = flow-past-msg _ x (v .to-far);
   to-near = flow-plain j jr jq n x (v .to-near);
-  near-fate =
-      v .near-fate;
+  near-fate = v .near-fate;
   far-fate = v .far-fate;
 }
 
@@ -54,8 +53,7 @@ hear-sure : {a b : Log} {wa wb : List ℕ} {ea eb : Bool} {qa qb : List Sent} {u
 unfolding log-given log-okay
 hear-sure i ir iq n x y v = record {
   to-far = flow-add-ack i y (flow-past-msg _ x (v .to-far));
-  to-near =
-      flow-acked i ir iq n x y (v .to-near);
+  to-near = flow-acked i ir iq n x y (v .to-near);
   near-fate = v .near-fate;
   far-fate = v .far-fate;
 }
@@ -67,8 +65,7 @@ hear-late m x v = record {
   to-far = flow-past-msg m x (v .to-far);
   to-near = flow-unacked m x (v .to-near);
   near-fate = v .near-fate;
-  far-fate =
-      v .far-fate;
+  far-fate = v .far-fate;
 }
 
 hear-ack : {a b : Log} {wa wb : List ℕ} {ea eb : Bool} {qa qb : List Sent} {una unb : List ℕ} (r : ℕ) (x : List ℕ × Body × ℕ) →
@@ -78,8 +75,7 @@ hear-ack r x v = record {
   to-far = flow-told r x (v .to-far);
   to-near = flow-past-ack r x (v .to-near);
   near-fate = v .near-fate;
-  far-fate =
-      v .far-fate;
+  far-fate = v .far-fate;
 }
 
 owed-first : {h g : List Msg} {o w : List ℕ} {q back : List Sent} {un : List ℕ} (r : ℕ) (x : List ℕ × Body × ℕ) →
@@ -91,8 +87,7 @@ talk-blank : Talk blank blank [] [] false false [] [] [] []
 unfolding blank msgs acks ids fateOf
 talk-blank = record {
   to-far = record { moved = refl; seen = refl; owed = refl };
-  to-near =
-      record { moved = refl; seen = refl; owed = refl };
+  to-near = record { moved = refl; seen = refl; owed = refl };
   near-fate = refl;
   far-fate = refl;
 }
@@ -117,8 +112,7 @@ good-turned m ea eb = rw (ea, eb) (record {
   to-far = ([], refl);
   to-near = ([], refl);
   near-told = (idsOf m ++ [], refl);
-  far-told =
-      ([], refl);
+  far-told = ([], refl);
   whole = λ o. (refl, refl);
 })
 
@@ -129,8 +123,7 @@ good-turned-ok i ir iq n ea eb = rw (ea, eb) (record {
   to-far = ([], refl);
   to-near = ([], refl);
   near-told = ([], refl);
-  far-told =
-      ([], refl);
+  far-told = ([], refl);
   whole = λ o. (refl, refl);
 })
 

@@ -182,8 +182,7 @@ sever-good g = record {
   to-near = g .to-near;
   near-told = g .near-told;
   far-told = g .far-told;
-  whole =
-      λ o. absurd (not-broken near-broken o);
+  whole = λ o. absurd (not-broken near-broken o);
 }
 
 -- Accounts.

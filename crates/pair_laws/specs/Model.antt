@@ -197,12 +197,13 @@ purge d [] = []
 purge d (l ∷ q) = pick (eqb (l .0) d) (purge d q) (l ∷ purge d q)
 
 -- 35 of the near end, which leaves by it; `still`: the far end is still in the dialogue. "… and gives 15 or 16 to an end still in it, before
--- anything of a later one". From here to when it hears or leaves, that end is hung.
+-- anything of a later one": 15 stands in front. From here until it hears or leaves, that end is hung.
 unfoldable pub sever : (d reason : ℕ) → (still : Bool) → World → World
 sever d r true (world a b out inn next) = world (set-hung false a) (set-hung true b) ((d, cut r) ∷ purge d out) (purge d inn) next
 sever d r false (world a b out inn next) = world (set-hung false a) b (purge d out) (purge d inn) next
 
--- The near end hands a line of its dialogue to the link. (`lost` is the provider's; no unit sends it.)
+-- The near end hands a line of its dialogue to the link. 35 acts on the link at once, of a hung end too, because an end leaves by it. (`lost` is
+-- the provider's; no unit sends it.)
 unfoldable pub carry : (x d : ℕ) → Line → World → World
 carry x d (start a f) w = post d (extended x (start a f)) w
 carry x d (reply a f) w = post d (extended x (reply a f)) w
@@ -255,7 +256,7 @@ start-comes [] = false
 start-comes (l ∷ q) = either (is-start (l .1)) (start-comes q)
 
 -- A request with the rule book's outcome. In a dialogue it is an event of that dialogue. In Idle it begins one by 30, unless starts would cross:
--- "Starts cross when an end sends 30 while a 30 travels toward it." Demand 3 is about runs without that, so then it is no step of the run.
+-- "Starts cross when an end sends 30 while a 30 travels toward it." Runs are without crossing: a request that would cross is no step of a run.
 unfoldable pub ask-with : (x : ℕ) (new : List ℕ) (in-dialogue crosses : Bool) → Outcome → World → World
 ask-with x new true c o w = act x new silent o w
 ask-with x new false true o w = w
@@ -329,7 +330,7 @@ deliver-near x (world a b out (l ∷ inn) next) = reach x (l .0) (l .1) (world a
 
 -- ---------------------------------------------------------------- the provider aborts the near end's dialogue
 
--- The dialogue's lines go, and an end still in it gets 16 "before anything of a later one".
+-- The dialogue's lines go, and 16 stands in front for an end still in it, "before anything of a later one".
 unfoldable pub warn : (d : ℕ) (still : Bool) → Queue → Queue
 warn d true q = (d, lost) ∷ purge d q
 warn d false q = purge d q
