@@ -4,7 +4,7 @@ use mathlib.Core.Bool.{Bool, true, false}
 use mathlib.Core.Option.{none}
 use mathlib.Core.List.{[], _∷_}
 use Rattle.book.specs.Book.{reply, on-tick, fall, waitingOf}
-use Rattle.pair_laws.specs.Model.{at, World, world, act, silent, log-all, log-out, log-sent, emit, carry, post, sever, far-inside, inside, set-hung, busy, answers, purge}
+use Rattle.pair_laws.specs.Model.{at, World, world, act, silent, log-all, log-out, log-sent, emit, carry, post, sever, far-inside, inside, hang, busy, answers, purge}
 use Rattle.pair_laws.proofs.Facts.{dats-append, emit-unsure, log-unsure, answers-unsure, eqb-refl, purge-dats}
 use Rattle.pair_laws.proofs.Inv.{up, down, acked, unacked, in-single, in-multi, in-ending, in-assoc, by-peer, rested, turning, closing, severed, resting, calling-single, calling-multi, stranded-single, stranded-multi, Inv, talking, dead, free, free′, opening, opening′, tail}
 use Rattle.pair_laws.proofs.Close.{talk-flip, books-flip, severed-flip, good-severed, good-turning, good-closing, good-flip, up-waits}
@@ -16,7 +16,7 @@ unfoldable pub tick-at : (late : Bool) → World → World
 tick-at c (world (at s u d h f acc ans) b out inn next) = act 0 [] silent (on-tick s c u) (world (at s u d h f acc ans) b out inn next)
 
 pub inv-tick : (c : Bool) {w : World} → Inv w → Inv (tick-at c w)
-unfolding tick-at on-tick fall act silent log-all log-out log-sent emit carry post sever far-inside inside set-hung busy answers waitingOf tail purge
+unfolding tick-at on-tick fall act silent log-all log-out log-sent emit carry post sever far-inside inside hang busy answers waitingOf tail purge
 inv-tick true (talking {d = d} {qa = qa} {qb = qb} up b acked e v k p q) =
     make-talking _ k qa qb down b unacked e (asking v) (same-account p) q (dats-append d qa [] _) refl
 inv-tick false (talking {qa = qa} {qb = qb} up b c e v k p q) = make-talking _ k qa qb up b c e v (same-account p) q refl refl

@@ -130,8 +130,8 @@ abbrev pub Queue : Type 0
 Queue = List (ℕ × Line)
 
 -- An end: its unit's setup and state; the dialogue that it is in, or was last in when its unit is in Idle; `hung`, whether an abort has cut it off
--- and it has neither heard so nor left; its logs, one a dialogue; the identifiers of all confirmed transfers (02) that its unit took, and of all
--- that its unit answered, both in order and over all dialogues.
+-- from that dialogue and it hasn't heard (of no meaning in Idle; each dialogue begins with false); its logs, one a dialogue; the identifiers of all
+-- confirmed transfers (02) that its unit took, and of all that its unit answered, both in order and over all dialogues.
 pub data End : Type 0 where
   at : (setup : Setup) (state : State) (dialogue : ℕ) (hung : Bool) (logs : ℕ → Log) (accepted answered : List ℕ) → End
 
@@ -166,8 +166,8 @@ far-inside d (world a b out inn next) = inside d b
 unfoldable pub near-state : World → State
 near-state (world (at s u d h f acc ans) b out inn next) = u
 
-unfoldable pub set-hung : Bool → End → End
-set-hung h (at s u n h′ f acc ans) = at s u n h f acc ans
+unfoldable pub hang : End → End
+hang (at s u n h f acc ans) = at s u n true f acc ans
 
 -- ---------------------------------------------------------------- the near end sends
 
@@ -187,7 +187,8 @@ extended x (finOk b) = finOk b
 extended x (cut r) = cut r
 extended x lost = lost
 
--- A line of dialogue d joins those toward the far end. "Until that end hears or leaves, what it sends in the dialogue is dropped."
+-- A line of dialogue d, the near end's, joins those toward the far end; of a hung end it doesn't. "Until that end hears or leaves, what it sends in
+-- the dialogue is dropped."
 unfoldable pub post : (d : ℕ) → Line → World → World
 post d l (world (at s u n h f acc ans) b out inn next) = world (at s u n h f acc ans) b (pick h out (out ++ ((d, l) ∷ []))) inn next
 
@@ -199,8 +200,8 @@ purge d (l ∷ q) = pick (eqb (l .0) d) (purge d q) (l ∷ purge d q)
 -- 35 of the near end, which leaves by it; `still`: the far end is still in the dialogue. "… and gives 15 or 16 to an end still in it, before
 -- anything of a later one": 15 stands in front. From here until it hears or leaves, that end is hung.
 unfoldable pub sever : (d reason : ℕ) → (still : Bool) → World → World
-sever d r true (world a b out inn next) = world (set-hung false a) (set-hung true b) ((d, cut r) ∷ purge d out) (purge d inn) next
-sever d r false (world a b out inn next) = world (set-hung false a) b (purge d out) (purge d inn) next
+sever d r true (world a b out inn next) = world a (hang b) ((d, cut r) ∷ purge d out) (purge d inn) next
+sever d r false (world a b out inn next) = world a b (purge d out) (purge d inn) next
 
 -- The near end hands a line of its dialogue to the link. 35 acts on the link at once, of a hung end too, because an end leaves by it. (`lost` is
 -- the provider's; no unit sends it.)
