@@ -1,4 +1,4 @@
--- What the invariant says, and its symmetry.
+-- What the invariant says: demand 3; and its symmetry under `swap`. Closed by cases on the configuration.
 use mathlib.Core.Path.{_≡_, refl, _∙_}
 use mathlib.Core.Bool.{Bool, true, false, false≢true}
 use mathlib.Core.List.{List, [], _++_, append-nil}
@@ -70,7 +70,13 @@ good-blank = record { to-far = ([], refl); to-near = ([], refl); near-told = ([]
 -- The dialogue of an end that is behind is good too.
 pub good-turning : {a b : Log} (m : Msg) → a ≡ called-log m → b ≡ given-log m → Good a b
 unfolding called-log given-log ids
-good-turning m ea eb = rw (ea, eb) (record { to-far = ([], refl); to-near = ([], refl); near-told = (idsOf m ++ [], refl); far-told = ([], refl); whole = λ o. absurd (not-going o) })
+good-turning m ea eb = rw (ea, eb) (record {
+  to-far = ([], refl);
+  to-near = ([], refl);
+  near-told = (idsOf m ++ [], refl);
+  far-told = ([], refl);
+  whole = λ o. absurd (not-going o);
+})
 
 pub good-closing : {a b : Log} {w : List ℕ} {q : List Sent} {un : List ℕ} →
     Flow (a .handed) (b .given) (a .okays) w [] q un → Rest (b .handed) (a .given) (b .okays) q → a .fate ≡ asked → Left (b .fate) → Good a b
@@ -184,4 +190,5 @@ demanded (dead a b c d v k p q) = demand3 (good-all k (good-severed v)) (λ e. a
 demanded (free a b k p q) = demand3 (good-all k (good-behind a)) (λ e. answered p e) (λ e. answered q e)
 demanded (free′ a b k p q) = demand3 (λ n. good-flip (good-all k (good-behind a) n)) (λ e. answered q e) (λ e. answered p e)
 demanded (opening {T = T} {k = m} {τ = t} a b v k p q) = demand3 (good-all k (good-talk v)) (λ e. idle-of-multi T m t e) (up-answered a q)
-demanded (opening′ {T = T} {k = m} {τ = t} a b v k p q) = demand3 (λ n. good-flip (good-all k (good-talk v) n)) (up-answered a q) (λ e. idle-of-multi T m t e)
+demanded (opening′ {T = T} {k = m} {τ = t} a b v k p q) = demand3 (λ n. good-flip (good-all k (good-talk v) n)) (up-answered a q)
+    (λ e. idle-of-multi T m t e)

@@ -1,4 +1,4 @@
--- Demand 3 of every run.
+-- DEMAND 3 OF EVERY RUN. Closed by induction on the run: the beginning keeps the invariant, each command keeps it, and it gives the demand.
 use mathlib.Core.Path.{_≡_, refl}
 use mathlib.Core.Option.{Option, none, some}
 use mathlib.Core.Bool.{Bool, true, false}
@@ -29,7 +29,8 @@ ask-refused x new true c n w = refl
 ask-refused x new false true n w = refl
 ask-refused x new false false n w = refl
 
-inv-vetted : (x : Fields) (a : Terms) (o : Option Msg) {s : Setup} {u : State} {d : ℕ} {h : Bool} {f : ℕ → Log} {acc ans : List ℕ} {b : End} {out inn : Queue} {next : ℕ} →
+inv-vetted : (x : Fields) (a : Terms) (o : Option Msg) {s : Setup} {u : State} {d : ℕ} {h : Bool} {f : ℕ → Log} {acc ans : List ℕ} {b : End}
+    {out inn : Queue} {next : ℕ} →
     Inv (world (at s u d h f acc ans) b out inn next) →
     Inv (ask-with x (asked-ids o) (busy u) (start-comes inn) (on-vetted a o u) (world (at s u d h f acc ans) b out inn next))
 unfolding asked-ids on-vetted ask-at
@@ -57,7 +58,9 @@ inv-run (c ∷ cs) w i = inv-run cs (do-at (c .0) (c .1) w) (inv-at (c .0) (c .1
 inv-beginning : (s t : Setup) → Inv (beginning s t)
 unfolding beginning new-end waitingOf
 inv-beginning s t =
-    free {s = s} {t = t} {d = 0} {e = 0} {h = false} {i = false} {f = λ n. blank} {g = λ n. blank} {acc = []} {ans = []} {acc′ = []} {ans′ = []} {next = 1} {cl = []} {st = []} (rested good-blank) (resting (omega arith)) (record { hist = λ n ne. good-blank; new = λ n ge. (refl, refl); below = omega arith }) (record { sum = refl }) (record { sum = refl })
+    free {s = s} {t = t} {d = 0} {e = 0} {h = false} {i = false} {f = λ n. blank} {g = λ n. blank} {acc = []} {ans = []} {acc′ = []} {ans′ = []}
+    {next = 1} {cl = []} {st = []} (rested good-blank) (resting (omega arith))
+    (record { hist = λ n ne. good-blank; new = λ n ge. (refl, refl); below = omega arith }) (record { sum = refl }) (record { sum = refl })
 
 pub inv-of-run : (s t : Setup) (cs : List (Side × Act)) → Inv (run cs (beginning s t))
 inv-of-run s t cs = inv-run cs (beginning s t) (inv-beginning s t)

@@ -178,7 +178,7 @@ pub record Examples : Type 0 where
   pub no-crossing : after ((near, ask-02 0 (sheet 7)) ∷ (far, ask-02 0 (sheet 9)) ∷ []) ≡ after ((near, ask-02 0 (sheet 7)) ∷ [])
 
 pub examples : Examples
-unfolding in-order answer-to-next Model.blank Model.ask Model.grant Model.turn Model.log-fate Model.log-handed Model.log-read Model.log-given Model.log-okay Model.log-sent Model.log-out Model.log-all Model.log-heard Model.silent Model.answers swap Model.update Model.busy Model.inside Model.near-inside Model.far-inside Model.near-state Model.set-hung Model.with-fields Model.extended Model.post Model.purge Model.sever Model.carry Model.emit Model.act Model.act-there Model.fresh Model.is-start Model.start-comes Model.ask-with Model.asked-ids Model.ask-near Model.end-near Model.tick-near Model.on-line Model.as-heard Model.hear Model.join Model.hear-start Model.reach Model.deliver-near Model.warn Model.break-end Model.break-both Model.break-near Model.do-near Model.do-at run Model.new-end beginning Book.same-terms Book.settled Book.idsOf Book.waitingOf Book.full Book.without-in Book.without Book.bodyOf Book.ack-body ack Book.local Book.unsure Book.refuse-all Book.with-seen Book.fall Book.quiet-fall Book.vet Book.bar-confirmed Book.bar Book.on-single Book.on-multi Book.on-shot Book.on-vetted Book.on-request Book.on-end Book.late Book.on-tick Book.greet Book.first-contact Book.on-start Book.result-of Book.single-result Book.answered-by Book.begun Book.on-reply Book.noted Book.left-waiting Book.on-dat Book.on-fin Book.on-finOk Book.on-abort
+unfolding in-order answer-to-next Model.blank Model.ask Model.grant Model.turn Model.log-fate Model.log-handed Model.log-read Model.log-given Model.log-okay Model.log-sent Model.log-out Model.log-all Model.log-heard Model.silent Model.answers swap Model.update Model.busy Model.inside Model.near-inside Model.far-inside Model.near-state Model.hang Model.with-fields Model.extended Model.post Model.purge Model.sever Model.carry Model.emit Model.act Model.act-there Model.fresh Model.is-start Model.start-comes Model.ask-with Model.asked-ids Model.ask-near Model.end-near Model.tick-near Model.on-line Model.as-heard Model.hear Model.join Model.hear-start Model.reach Model.deliver-near Model.warn Model.break-end Model.break-both Model.break-near Model.do-near Model.do-at run Model.new-end beginning Book.same-terms Book.settled Book.idsOf Book.waitingOf Book.full Book.without-in Book.without Book.bodyOf Book.ack-body ack Book.local Book.unsure Book.refuse-all Book.with-seen Book.fall Book.quiet-fall Book.vet Book.bar-confirmed Book.bar Book.on-single Book.on-multi Book.on-shot Book.on-vetted Book.on-request Book.on-end Book.late Book.on-tick Book.greet Book.first-contact Book.on-start Book.result-of Book.single-result Book.answered-by Book.begun Book.on-reply Book.noted Book.left-waiting Book.on-dat Book.on-fin Book.on-finOk Book.on-abort
 examples = record {
   goes-both-ways = refl;
   ends-in-order = refl;

@@ -1,4 +1,5 @@
--- Small facts.
+-- Small facts of the model: which log and which lines a step touches, data lines on the way, output lines that touch neither log nor link. Closed by
+-- induction on lists, and by the test of two equal numbers.
 use mathlib.Core.Path.{_≡_, refl, sym, _∙_, ap}
 use mathlib.Core.Bool.{Bool, true, false}
 use mathlib.Core.Option.{none, some}
@@ -32,10 +33,10 @@ pub without-first : (r : ℕ) (w : List ℕ) → without r (r ∷ w) ≡ some w
 unfolding without without-in
 without-first r w = rw (eqb-refl r)
 
--- What a unit writes in the data phase: a message, or an acknowledgement confirmedOk.
+-- What a unit writes in the data phase: a message, or an acknowledgement (confirmedOk); and the number of its extension fields.
 pub data Sent : Type 0 where
-  mes : Msg → (ext : ℕ) → Sent
-  confirm : (ref : ℕ) (rest : List ℕ × Body × ℕ) → Sent
+  mes : Msg → (fields : ℕ) → Sent
+  confirm : (ref : ℕ) (sender-body-fields : List ℕ × Body × ℕ) → Sent
 
 unfoldable pub wire : Sent → Reading
 wire (mes m x) = good (msg m) x

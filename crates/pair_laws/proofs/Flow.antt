@@ -1,6 +1,6 @@
--- One direction of a dialogue, as lists: what one end handed over, what the other's user was given, the successes
--- told to the first, what it still waits for, the frames on the way (`q`) and on the way back (`back`), and the
--- identifiers given to the far user that it did not acknowledge (`un`).
+-- ONE DIRECTION OF A DIALOGUE, as lists: what one end handed over, what the other's user was given, the successes told to the first, what it still
+-- waits for, the frames on the way (`q`) and on the way back (`back`), and the identifiers given to the second user that its unit did not
+-- acknowledge (`un`). Closed by the laws of `++`.
 use mathlib.Core.Path.{_≡_, refl, sym, _∙_, ap}
 use mathlib.Core.Option.{Option}
 use mathlib.Core.List.{List, [], _∷_, _++_, append-assoc, append-nil}
@@ -57,7 +57,8 @@ flow-plain {g} {q} n nr nq b x f = record {
   owed = f .owed;
 }
 
-pub flow-acked : {h g : List Msg} {o w : List ℕ} {q back : List Sent} (i : ℕ) (ir : Option ℕ) (iq : Option (List ℕ)) (b : Body) (x : ℕ) (y : List ℕ × Body × ℕ) →
+pub flow-acked : {h g : List Msg} {o w : List ℕ} {q back : List Sent} (i : ℕ) (ir : Option ℕ) (iq : Option (List ℕ)) (b : Body) (x : ℕ)
+    (y : List ℕ × Body × ℕ) →
     Flow h g o w (mes (sure i ir iq b) x ∷ q) back [] → Flow h (g ++ (sure i ir iq b ∷ [])) o w q (back ++ (confirm i y ∷ [])) []
 unfolding msgs ids idsOf acks
 flow-acked {g} {o} {q} {back} i ir iq b x y f = record {
@@ -115,7 +116,11 @@ pub rest-given : {h g : List Msg} {o : List ℕ} {q : List Sent} (m : Msg) (x : 
 unfolding msgs ids
 rest-given {g} {o} {q} m x r = record {
   moved = r .moved ∙ sym (append-assoc g (m ∷ []) (msgs q));
-  told = (r .told .0 ++ (idsOf m ++ []), sym (append-assoc o (r .told .0) (idsOf m ++ [])) ∙ ap (λ v. v ++ (idsOf m ++ [])) (r .told .1) ∙ sym (ids-append g (m ∷ [])));
+  told = (
+    r .told .0 ++ (idsOf m ++ []),
+    sym (append-assoc o (r .told .0) (idsOf m ++ [])) ∙ ap (λ v. v ++ (idsOf m ++ [])) (r .told .1) ∙ sym
+        (ids-append g (m ∷ [])),
+  );
 }
 
 pub rest-past-ack : {h g : List Msg} {o : List ℕ} {q : List Sent} (r : ℕ) (x : List ℕ × Body × ℕ) → Rest h g o (confirm r x ∷ q) → Rest h g o q

@@ -1,4 +1,4 @@
--- The invariant of a run: which states, queues and logs go together.
+-- THE INVARIANT OF A RUN: which states, queues and logs go together. Definitions alone; nothing is to be closed.
 use mathlib.Core.Path.{_≡_}
 use mathlib.Core.Bool.{Bool, true, false}
 use mathlib.Core.Option.{Option, none, some}
@@ -80,7 +80,8 @@ pub record Severed (a b : Log) : Type 0 where
 -- A single-shot message was given, and its reply is on the way.
 pub data Reply : Msg → Option Reading → Type 0 where
   reply-plain : {i ir : Option ℕ} {iq : Option (List ℕ)} {b : Body} → Reply (plain i ir iq b) none
-  reply-sure : {i : ℕ} {ir : Option ℕ} {iq : Option (List ℕ)} {o : List ℕ} {b c : Body} {x : ℕ} → Reply (sure i ir iq b) (some (good (note ok i none o c) x))
+  reply-sure : {i : ℕ} {ir : Option ℕ} {iq : Option (List ℕ)} {o : List ℕ} {b c : Body} {x : ℕ} →
+      Reply (sure i ir iq b) (some (good (note ok i none o c) x))
 
 unfoldable pub given-log : Msg → Log
 given-log m = record { handed = []; given = m ∷ []; okays = []; fate = going }

@@ -1,11 +1,12 @@
--- What the theorem says in other words.
+-- What demand 3 says in other words: a success names a confirmed message that was given. Closed by finding the identifier in the list.
 use mathlib.Core.Path.{refl, sym, ap, subst}
 use mathlib.Core.Logic.{_⊎_, inl, inr}
 use mathlib.Core.List.{List, [], _∷_, List·Memᴰ, List·Memᴰ·head, Memᴰ·append-left, Memᴰ·append-right, List·Memᴰ·append-cases, List·Memᴰ·eq-of-singleton, List·Memᴰ·not-nil}
 use Prim.Native.Nat.{ℕ}
 use Rattle.book.specs.Book.{Msg, plain, sure, idsOf}
-use Rattle.pair_laws.specs.Model.{Log}
-use Rattle.pair_laws.specs.Statement.{ids, Good, Confirmed}
+use Rattle.pair_laws.specs.Model.{World}
+use Rattle.pair_laws.specs.Statement.{Demand3, demand3, near-log, far-log, SuccessGiven, Prefix, ids, Confirmed}
+use Rattle.pair_laws.proofs.Demand.{theorem}
 
 later : {r : ℕ} {ms : List Msg} (m : Msg) → Confirmed r ms → Confirmed r (m ∷ ms)
 later m c = (c .0, Memᴰ·append-right (m ∷ []) (c .1), c .2)
@@ -27,6 +28,14 @@ found r (m ∷ ms) h = go (List·Memᴰ·append-cases (idsOf m) h) (λ k. found 
     go (inl k) rec = here r m ms k
     go (inr k) rec = later m (rec k)
 
--- 'Successful delivery' of r was told: a confirmed message with identifier r was already given to the far user.
-pub success-given : {a b : Log} (r : ℕ) → Good a b → List·Memᴰ r (a .okays) → Confirmed r (b .given)
-success-given {a} {b} r g h = found r (b .given) (subst (λ l. List·Memᴰ r l) (g .near-told .1) (Memᴰ·append-left (g .near-told .0) h))
+-- Successes that are a prefix of the identifiers given name messages that were given.
+told-given : {okays : List ℕ} {given : List Msg} (i : ℕ) → Prefix okays (ids given) → List·Memᴰ i okays → Confirmed i given
+told-given {given} i p h = found i given (subst (λ l. List·Memᴰ i l) (p .1) (Memᴰ·append-left (p .0) h))
+
+demand-given : {w : World} (n i : ℕ) → Demand3 w →
+    (List·Memᴰ i (near-log n w .okays) → Confirmed i (far-log n w .given)) × (List·Memᴰ i (far-log n w .okays) → Confirmed i (near-log n w .given))
+unfolding near-log far-log
+demand-given n i (demand3 ds a b) = (λ h. told-given i (ds n .near-told) h, λ h. told-given i (ds n .far-told) h)
+
+pub success-given : SuccessGiven
+success-given s t cs n i = demand-given n i (theorem s t cs)

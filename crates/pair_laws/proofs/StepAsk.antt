@@ -1,4 +1,5 @@
--- A request.
+-- A request (01, 02) keeps the invariant, whatever refusal it meets. Closed by cases on the configuration: in Idle it begins a dialogue, in
+-- Associated it adds a message to the flow, and otherwise it is refused.
 use mathlib.Core.Path.{_≡_, refl, _∙_, ap}
 use mathlib.Core.Bool.{Bool, true, false}
 use mathlib.Core.Option.{Option, none, some}
@@ -19,7 +20,12 @@ use Rattle.pair_laws.proofs.Tools.{make-talking, make-dead, make-free, 
 pub sending : {a b : Log} {wa wb : List ℕ} {ea eb : Bool} {qa qb : List Sent} {una unb : List ℕ} (m : Msg) (x : ℕ) →
     Talk a b wa wb ea eb qa qb una unb → Talk (log-handed (msg m) a) b (wa ++ idsOf m) wb ea eb (qa ++ (mes m x ∷ [])) qb una unb
 unfolding log-handed
-sending m x v = record { to-far = flow-more m x (v .to-far); to-near = flow-add-msg m x (v .to-near); near-fate = v .near-fate; far-fate = v .far-fate }
+sending m x v = record {
+  to-far = flow-more m x (v .to-far);
+  to-near = flow-add-msg m x (v .to-near);
+  near-fate = v .near-fate;
+  far-fate = v .far-fate;
+}
 
 sending-severed : {a b : Log} (m : Msg) (x : ℕ) → Severed a b → Severed (log-handed (msg m) a) b
 unfolding log-handed
@@ -40,29 +46,40 @@ books-up {next} k = record { hist = k .hist; new = λ n ge. k .new n (omega arit
 
 good-called : (m : Msg) → Good blank (called-log m)
 unfolding blank called-log ids
-good-called m = record { to-far = ([], refl); to-near = (m ∷ [], refl); near-told = ([], refl); far-told = ([], refl); whole = λ o. absurd (not-going o) }
+good-called m = record {
+  to-far = ([], refl);
+  to-near = (m ∷ [], refl);
+  near-told = ([], refl);
+  far-told = ([], refl);
+  whole = λ o. absurd (not-going o);
+}
 
 after-nil : (cl st : Queue) → (cl ++ []) ++ st ≡ cl ++ st
 after-nil cl st = ap (λ z. z ++ st) (append-nil cl)
 
 -- The near end, in Idle, calls.
-begin-single : {s t : Setup} {u : State} {d : ℕ} {h : Bool} {f g : ℕ → Log} {acc ans acc′ ans′ : List ℕ} {next : ℕ} {cl out : Queue} (o : Terms) (m : Msg) (x : ℕ) → bodyOf m .maintained ≡ false →
+begin-single : {s t : Setup} {u : State} {d : ℕ} {h : Bool} {f g : ℕ → Log} {acc ans acc′ ans′ : List ℕ} {next : ℕ} {cl out : Queue} (o : Terms)
+    (m : Msg) (x : ℕ) → bodyOf m .maintained ≡ false →
     Behind d (f d) (g d) u h cl → Books f g d next → Owes acc ans (waitingOf u) → Owes acc′ ans′ [] →
     out ≡ cl ++ ((next, start o (some (good (msg m) x))) ∷ []) →
-    Inv (world (at t (single o (idsOf m) 0) next false (update g next (log-handed (msg m) (g next))) (acc′ ++ idsOf m) (ans′ ++ [])) (at s u d h f acc ans) out [] (suc next))
+    Inv (world (at t (single o (idsOf m) 0) next false (update g next (log-handed (msg m) (g next))) (acc′ ++ idsOf m) (ans′ ++ []))
+    (at s u d h f acc ans) out [] (suc next))
 unfolding waitingOf log-handed blank called-log
 begin-single {f} {g} {next} o m x sh a k p q eo =
     let n = k .new next (le-refl next) in
-    make-ahead _ a (calling-single sh (rw (n .1)) (n .0) (λ z. omega (arith, k .below)) (omega arith)) (books-up k) (rw (n .0, n .1) (good-called m)) (omega arith) (λ z. omega (arith, k .below)) p (first-owed m q) eo
+    make-ahead _ a (calling-single sh (rw (n .1)) (n .0) (λ z. omega (arith, k .below)) (omega arith)) (books-up k)
+    (rw (n .0, n .1) (good-called m)) (omega arith) (λ z. omega (arith, k .below)) p (first-owed m q) eo
 
-begin-multi : {s t : Setup} {u : State} {d : ℕ} {h : Bool} {f g : ℕ → Log} {acc ans acc′ ans′ : List ℕ} {next : ℕ} {cl out : Queue} (o : Terms) (m : Msg) →
+begin-multi : {s t : Setup} {u : State} {d : ℕ} {h : Bool} {f g : ℕ → Log} {acc ans acc′ ans′ : List ℕ} {next : ℕ} {cl out : Queue} (o : Terms)
+    (m : Msg) →
     Behind d (f d) (g d) u h cl → Books f g d next → Owes acc ans (waitingOf u) → Owes acc′ ans′ [] →
     out ≡ cl ++ ((next, start o none) ∷ []) →
     Inv (world (at t (multi o m 0) next false (update g next (g next)) (acc′ ++ idsOf m) (ans′ ++ [])) (at s u d h f acc ans) out [] (suc next))
 unfolding waitingOf
 begin-multi {f} {g} {next} o m a k p q eo =
     let n = k .new next (le-refl next) in
-    make-ahead _ a (calling-multi (n .1) (n .0) (λ z. omega (arith, k .below)) (omega arith)) (books-up k) (rw (n .0, n .1) good-blank) (omega arith) (λ z. omega (arith, k .below)) p (first-owed m q) eo
+    make-ahead _ a (calling-multi (n .1) (n .0) (λ z. omega (arith, k .below)) (omega arith)) (books-up k) (rw (n .0, n .1) good-blank)
+    (omega arith) (λ z. omega (arith, k .below)) p (first-owed m q) eo
 
 -- what a request does, by whether it is maintained and by the refusal that it meets in Associated, if any
 unfoldable pub shot : (bar : Option ℕ) (maintained : Bool) → Terms → Msg → State → Outcome
@@ -134,6 +151,7 @@ inv-ask c true x o m sh (opening a b v k p q) = opening a b v k p q
 inv-ask c false x o m sh (opening′ up b v k p q) = opening′ up b v k p q
 inv-ask (some n) true x o m sh (opening′ up b v k p q) = opening′ up b v k p q
 inv-ask none true x o m sh (opening′ {d = d} {qb = qb} up b v k p q) =
-    make-opening′ _ (books-flip k) (qb ++ (mes m (x (msg m)) ∷ [])) up b (talk-flip (sending m (x (msg m)) (talk-flip v))) (more-owed m q) p (ap (λ z. (d, reply true none) ∷ z) (dats-post d qb _))
+    make-opening′ _ (books-flip k) (qb ++ (mes m (x (msg m)) ∷ [])) up b (talk-flip (sending m (x (msg m)) (talk-flip v))) (more-owed m q) p
+    (ap (λ z. (d, reply true none) ∷ z) (dats-post d qb _))
 inv-ask c false x o m sh (opening′ down b v k p q) = opening′ down b v k p q
 inv-ask c true x o m sh (opening′ down b v k p q) = opening′ down b v k p q

@@ -1,4 +1,4 @@
--- A provider abort.
+-- A provider abort keeps the invariant. Closed by cases on the configuration, each by what purging leaves.
 use mathlib.Core.Path.{refl, sym}
 use mathlib.Core.Bool.{true}
 use mathlib.Core.List.{List, [], _∷_}
@@ -13,13 +13,18 @@ use Rattle.pair_laws.proofs.Tools.{books-far, outside-no, make-dead, ma
 
 sever-from-good : {a b : Log} → Good a b → Severed (log-fate (λ f. broken) a) b
 unfolding log-fate
-sever-from-good g = record { to-far = record { first = g .to-far; told = g .near-told }; to-near = record { first = g .to-near; told = g .far-told }; broke = near-broken }
+sever-from-good g = record {
+  to-far = record { first = g .to-far; told = g .near-told };
+  to-near = record { first = g .to-near; told = g .far-told };
+  broke = near-broken;
+}
 
 -- Both ends are cut off.
 make-cut : {s t : Setup} {u v : State} {d : ℕ} {f g : ℕ → Log} {acc ans acc′ ans′ : List ℕ} {next : ℕ} → Books f g d next →
     Busy u → Busy v → Good (f d) (g d) →
     Owes acc ans (waitingOf u) → Owes acc′ ans′ (waitingOf v) →
-    Inv (world (at s u d true (update f d (log-fate (λ k. broken) (f d))) acc ans) (at t v d true (update g d (log-fate (λ k. broken) (g d))) acc′ ans′) ((d, lost) ∷ []) ((d, lost) ∷ []) next)
+    Inv (world (at s u d true (update f d (log-fate (λ k. broken) (f d))) acc ans)
+    (at t v d true (update g d (log-fate (λ k. broken) (g d))) acc′ ans′) ((d, lost) ∷ []) ((d, lost) ∷ []) next)
 make-cut {d} {f} {g} k a b h p q =
     make-dead _ (books-far _ k) a b by-provider by-provider
     (rw (update-same g d (log-fate (λ k. broken) (g d))) (severed-flip (sever-again (severed-flip (sever-from-good h))))) p q

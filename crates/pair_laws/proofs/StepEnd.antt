@@ -1,4 +1,4 @@
--- G-END.
+-- G-END (03) keeps the invariant. Closed by cases on the configuration: each computes to a configuration again.
 use mathlib.Core.Path.{refl, ap}
 use mathlib.Core.Bool.{Bool, true, false}
 use mathlib.Core.Option.{none}
@@ -43,5 +43,6 @@ inv-end (free′ a (stranded-single c v ne lt) k p q) = free′ a (stranded-sing
 inv-end (free′ a (stranded-multi c v ne lt) k p q) = free′ a (stranded-multi c v ne lt) k p q
 inv-end (opening a b v k p q) = opening a b v k p q
 inv-end (opening′ {d = d} {qb = qb} up b v k p q) =
-    make-opening′ _ (books-flip k) qb down unacked (talk-flip (asking (talk-flip v))) (same-account q) p (ap (λ z. (d, reply true none) ∷ z) (dats-append d qb [] _))
+    make-opening′ _ (books-flip k) qb down unacked (talk-flip (asking (talk-flip v))) (same-account q) p
+    (ap (λ z. (d, reply true none) ∷ z) (dats-append d qb [] _))
 inv-end (opening′ down b v k p q) = opening′ down b v k p q

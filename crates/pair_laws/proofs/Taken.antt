@@ -1,4 +1,4 @@
--- Every delivered line is taken.
+-- NO DELIVERED LINE IS REFUSED, at either end, after any run. Closed by cases on the invariant's configuration and the next line.
 use mathlib.Core.Bool.{Bool, true, false}
 use mathlib.Core.List.{[], _∷_}
 use Prim.Native.Nat.{ℕ}

@@ -1,4 +1,4 @@
--- Making configurations after a step.
+-- The configurations of the invariant after a step, each from equations for the new queues. Closed by rewriting with those equations.
 use mathlib.Core.Path.{_≡_, refl, sym, _∙_, ap, subst, fun-ext}
 use mathlib.Core.Bool.{Bool, true, false}
 use mathlib.Core.Option.{none}
@@ -61,7 +61,8 @@ module _ {s t : Setup} {v : State} {d : ℕ} {f g : ℕ → Log} {acc ans acc′
       Owes acc ans wa → Owes acc′ ans′ wb → out ≡ dats d qa (tail d ea) → inn ≡ dats d qb (tail d eb) →
       Inv (world (at s u d false (update f d l) acc ans) (at t v d false g acc′ ans′) out inn next)
   make-talking {wa} {wb} {ea} {eb} {una} {unb} qa qb a b c e w p q eo ei =
-      rw (eo, ei) (talking {qa = qa} {qb = qb} a b c e (subst (λ x. Talk x (g d) wa wb ea eb qa qb una unb) (sym (update-same f d l)) w) (books-near l k) p q)
+      rw (eo, ei) (talking {qa = qa} {qb = qb} a b c e (subst (λ x. Talk x (g d) wa wb ea eb qa qb una unb) (sym (update-same f d l)) w)
+      (books-near l k) p q)
 
   pub make-dead : {u : State} {x y : Line} → Busy u → Busy v → Cut x → Cut y → Severed l (g d) →
       Owes acc ans (waitingOf u) → Owes acc′ ans′ (waitingOf v) →
@@ -85,16 +86,19 @@ module _ {s t : Setup} {v : State} {d : ℕ} {f g : ℕ → Log} {acc ans acc′
       (free′ (subst (λ x. Behind d (g d) x v i cl) (sym (update-same f d l)) a) (resting (k .below)) (books-flip (books-near l k)) q p)
 
 -- The near end was called and accepted; the caller has not heard.
-pub make-opening′ : {s t : Setup} {d : ℕ} {f g : ℕ → Log} {acc ans acc′ ans′ : List ℕ} {next : ℕ} {u : State} {T : Terms} {k′ : Msg} {τ : ℕ} {wb : List ℕ} {eb : Bool} {unb : List ℕ} {out : Queue}
+pub make-opening′ : {s t : Setup} {d : ℕ} {f g : ℕ → Log} {acc ans acc′ ans′ : List ℕ} {next : ℕ} {u : State} {T : Terms} {k′ : Msg} {τ : ℕ}
+    {wb : List ℕ} {eb : Bool} {unb : List ℕ} {out : Queue}
     (l : Log) → Books f g d next → (qb : List Sent) →
     Up u wb eb → Un eb unb → Talk (g d) l [] wb false eb [] qb [] unb →
     Owes acc ans wb → Owes acc′ ans′ (idsOf k′) → out ≡ (d, reply true none) ∷ dats d qb (tail d eb) →
     Inv (world (at s u d false (update f d l) acc ans) (at t (multi T k′ τ) d false g acc′ ans′) out [] next)
 make-opening′ {d} {f} {g} {wb} {eb} {unb} l k qb a b w p q eo =
-    rw eo (opening′ {qb = qb} a b (subst (λ x. Talk (g d) x [] wb false eb [] qb [] unb) (sym (update-same f d l)) w) (books-flip (books-near l k)) q p)
+    rw eo (opening′ {qb = qb} a b (subst (λ x. Talk (g d) x [] wb false eb [] qb [] unb) (sym (update-same f d l)) w)
+    (books-flip (books-near l k)) q p)
 
 -- The near end is the one ahead, and has written `l` into its log of its dialogue e.
-pub make-ahead : {s t : Setup} {u v : State} {d e : ℕ} {h i : Bool} {f g : ℕ → Log} {acc ans acc′ ans′ : List ℕ} {next : ℕ} {cl st back out : Queue} (l : Log) →
+pub make-ahead : {s t : Setup} {u v : State} {d e : ℕ} {h i : Bool} {f g : ℕ → Log} {acc ans acc′ ans′ : List ℕ} {next : ℕ} {cl st back out : Queue}
+    (l : Log) →
     Behind d (f d) (g d) u h cl → Ahead e l (f e) d next v i st back → Books f g d next → Good (f e) l → e < next → (e ≡ d → ⊥) →
     Owes acc ans (waitingOf u) → Owes acc′ ans′ (waitingOf v) → out ≡ cl ++ st →
     Inv (world (at t v e i (update g e l) acc′ ans′) (at s u d h f acc ans) out back next)
@@ -117,7 +121,8 @@ up-is-busy up = in-assoc
 up-is-busy down = in-ending
 
 -- The end that is ahead is not in the other's dialogue, and its start is no line of it.
-pub ahead-outside : {d e next : ℕ} {a b : Log} {v : State} {i : Bool} {st back : Queue} → Ahead e a b d next v i st back → both (busy v) (eqb e d) ≡ false
+pub ahead-outside : {d e next : ℕ} {a b : Log} {v : State} {i : Bool} {st back : Queue} → Ahead e a b d next v i st back →
+    both (busy v) (eqb e d) ≡ false
 unfolding busy
 ahead-outside (resting lt) = refl
 ahead-outside {d} {e} (calling-single o p q ne lt) = eqb-no e d ne
@@ -146,11 +151,13 @@ unfolding dats
 dats-purge d e [] r ne = refl
 dats-purge d e (f ∷ q) r ne = purge-other e d (dat (wire f)) (dats d q r) ne ∙ ap (λ z. (d, dat (wire f)) ∷ z) (dats-purge d e q r ne)
 
-pub behind-purge : {d : ℕ} {a b : Log} {u : State} {h : Bool} {cl : Queue} (e : ℕ) → (d ≡ e → ⊥) → Behind d a b u h cl → (st : Queue) → purge e (cl ++ st) ≡ cl ++ purge e st
+pub behind-purge : {d : ℕ} {a b : Log} {u : State} {h : Bool} {cl : Queue} (e : ℕ) → (d ≡ e → ⊥) → Behind d a b u h cl → (st : Queue) →
+    purge e (cl ++ st) ≡ cl ++ purge e st
 behind-purge e ne (rested g) st = refl
 behind-purge {d} e ne (turning r ea eb) st = purge-other e d _ st ne
 behind-purge {d} e ne (closing {q = q} {l = l} x f r y z) st =
-    ap (purge e) (dats-append d q ((d, l) ∷ []) st) ∙ dats-purge d e q ((d, l) ∷ st) ne ∙ ap (dats d q) (purge-other e d l st ne) ∙ sym (dats-append d q ((d, l) ∷ []) (purge e st))
+    ap (purge e) (dats-append d q ((d, l) ∷ []) st) ∙ dats-purge d e q ((d, l) ∷ st) ne ∙ ap (dats d q) (purge-other e d l st ne) ∙ sym
+    (dats-append d q ((d, l) ∷ []) (purge e st))
 behind-purge {d} e ne (severed b c v) st = purge-other e d _ st ne
 
 pub purge-tail : (d : ℕ) (e : Bool) → purge d (tail d e) ≡ []
@@ -159,7 +166,8 @@ purge-tail d true = purge-own d fin []
 purge-tail d false = refl
 
 -- Cutting.
-pub sever-talk : {a b : Log} {wa wb : List ℕ} {ea eb : Bool} {qa qb : List Sent} {una unb : List ℕ} → Talk a b wa wb ea eb qa qb una unb → Severed (log-fate (λ f. broken) a) b
+pub sever-talk : {a b : Log} {wa wb : List ℕ} {ea eb : Bool} {qa qb : List Sent} {una unb : List ℕ} → Talk a b wa wb ea eb qa qb una unb →
+    Severed (log-fate (λ f. broken) a) b
 unfolding log-fate
 sever-talk v = record { to-far = past-of (v .to-far); to-near = past-of (v .to-near); broke = near-broken }
 
@@ -169,7 +177,13 @@ sever-again v = record { to-far = v .to-far; to-near = v .to-near; broke = near-
 
 pub sever-good : {a b : Log} → Good a b → Good (log-fate (λ f. broken) a) b
 unfolding log-fate
-sever-good g = record { to-far = g .to-far; to-near = g .to-near; near-told = g .near-told; far-told = g .far-told; whole = λ o. absurd (not-broken near-broken o) }
+sever-good g = record {
+  to-far = g .to-far;
+  to-near = g .to-near;
+  near-told = g .near-told;
+  far-told = g .far-told;
+  whole = λ o. absurd (not-broken near-broken o);
+}
 
 -- Accounts.
 pub all-answered : {acc ans w : List ℕ} → Owes acc ans w → Owes (acc ++ []) (ans ++ (w ++ [])) []

@@ -130,8 +130,8 @@ abbrev pub Queue : Type 0
 Queue = List (ℕ × Line)
 
 -- An end: its unit's setup and state; the dialogue that it is in, or was last in when its unit is in Idle; `hung`, whether an abort has cut it off
--- and it has neither heard so nor left; its logs, one a dialogue; the identifiers of all confirmed transfers (02) that its unit took, and of all
--- that its unit answered, both in order and over all dialogues.
+-- from that dialogue and it hasn't heard (of no meaning in Idle; each dialogue begins with false); its logs, one a dialogue; the identifiers of all
+-- confirmed transfers (02) that its unit took, and of all that its unit answered, both in order and over all dialogues.
 pub data End : Type 0 where
   at : (setup : Setup) (state : State) (dialogue : ℕ) (hung : Bool) (logs : ℕ → Log) (accepted answered : List ℕ) → End
 
@@ -166,8 +166,8 @@ far-inside d (world a b out inn next) = inside d b
 unfoldable pub near-state : World → State
 near-state (world (at s u d h f acc ans) b out inn next) = u
 
-unfoldable pub set-hung : Bool → End → End
-set-hung h (at s u n h′ f acc ans) = at s u n h f acc ans
+unfoldable pub hang : End → End
+hang (at s u n h f acc ans) = at s u n true f acc ans
 
 -- ---------------------------------------------------------------- the near end sends
 
@@ -193,7 +193,8 @@ extended x (finOk b) = finOk b
 extended x (cut r) = cut r
 extended x lost = lost
 
--- A line of dialogue d joins those toward the far end. "Until that end hears or leaves, what it sends in the dialogue is dropped."
+-- A line of dialogue d, the near end's, joins those toward the far end; of a hung end it doesn't. "Until that end hears or leaves, what it sends in
+-- the dialogue is dropped."
 unfoldable pub post : (d : ℕ) → Line → World → World
 post d l (world (at s u n h f acc ans) b out inn next) = world (at s u n h f acc ans) b (pick h out (out ++ ((d, l) ∷ []))) inn next
 
@@ -203,12 +204,13 @@ purge d [] = []
 purge d (l ∷ q) = pick (eqb (l .0) d) (purge d q) (l ∷ purge d q)
 
 -- 35 of the near end, which leaves by it; `still`: the far end is still in the dialogue. "… and gives 15 or 16 to an end still in it, before
--- anything of a later one". From here to when it hears or leaves, that end is hung.
+-- anything of a later one": 15 stands in front. From here until it hears or leaves, that end is hung.
 unfoldable pub sever : (d reason : ℕ) → (still : Bool) → World → World
-sever d r true (world a b out inn next) = world (set-hung false a) (set-hung true b) ((d, cut r) ∷ purge d out) (purge d inn) next
-sever d r false (world a b out inn next) = world (set-hung false a) b (purge d out) (purge d inn) next
+sever d r true (world a b out inn next) = world a (hang b) ((d, cut r) ∷ purge d out) (purge d inn) next
+sever d r false (world a b out inn next) = world a b (purge d out) (purge d inn) next
 
--- The near end hands a line of its dialogue to the link. (`lost` is the provider's; no unit sends it.)
+-- The near end hands a line of its dialogue to the link. 35 acts on the link at once, of a hung end too, because an end leaves by it. (`lost` is
+-- the provider's; no unit sends it.)
 unfoldable pub carry : (x : Fields) (d : ℕ) → Line → World → World
 carry x d (start a f) w = post d (extended x (start a f)) w
 carry x d (reply a f) w = post d (extended x (reply a f)) w
@@ -261,7 +263,7 @@ start-comes [] = false
 start-comes (l ∷ q) = either (is-start (l .1)) (start-comes q)
 
 -- A request with the rule book's outcome. In a dialogue it is an event of that dialogue. In Idle it begins one by 30, unless starts would cross:
--- "Starts cross when an end sends 30 while a 30 travels toward it." Demand 3 is about runs without that, so then it is no step of the run.
+-- "Starts cross when an end sends 30 while a 30 travels toward it." Runs are without crossing: a request that would cross is no step of a run.
 unfoldable pub ask-with : (x : Fields) (new : List ℕ) (in-dialogue crosses : Bool) → Outcome → World → World
 ask-with x new true c o w = act x new silent o w
 ask-with x new false true o w = w
@@ -335,7 +337,7 @@ deliver-near x (world a b out (l ∷ inn) next) = reach x (l .0) (l .1) (world a
 
 -- ---------------------------------------------------------------- the provider aborts the near end's dialogue
 
--- The dialogue's lines go, and an end still in it gets 16 "before anything of a later one".
+-- The dialogue's lines go, and 16 stands in front for an end still in it, "before anything of a later one".
 unfoldable pub warn : (d : ℕ) (still : Bool) → Queue → Queue
 warn d true q = (d, lost) ∷ purge d q
 warn d false q = purge d q
@@ -357,7 +359,7 @@ break-near (world (at s u d h f acc ans) b out inn next) =
 -- ---------------------------------------------------------------- runs
 
 -- What can happen at an end: a request, 01 or (true) 02; G-END, 03; a tick, 04; the next line toward it is delivered; the provider aborts its
--- dialogue. The two that can make a unit hand a frame to the link carry how many extension fields that frame gets.
+-- dialogue. The two that can make a unit hand a frame to the link carry the number of that frame's extension fields.
 pub data Act : Type 0 where
   request : (confirmed : Bool) (fields : Fields) (terms : Terms) → Reading → Act
   end tick abort : Act

@@ -110,3 +110,18 @@ AlwaysTaken =
 -- A confirmed message with identifier i is among ms.
 abbrev pub Confirmed : (i : ℕ) → List Msg → Type 0
 Confirmed i ms = (m : Msg) × List·Memᴰ m ms × (idsOf m ≡ i ∷ [])
+
+-- the near end's and the far end's log of dialogue n
+unfoldable pub near-log : (n : ℕ) → World → Log
+near-log n (world (at s u d h f acc ans) b out inn next) = f n
+
+unfoldable pub far-log : (n : ℕ) → World → Log
+far-log n (world a (at s u d h f acc ans) out inn next) = f n
+
+-- After every run, in every dialogue, both ways: where a user was told that i was successful, the other user has been given a confirmed message with
+-- identifier i in that dialogue.
+abbrev pub SuccessGiven : Type 0
+SuccessGiven =
+    (s t : Setup) (cs : List (Side × Act)) (n i : ℕ) →
+    (List·Memᴰ i (near-log n (run cs (beginning s t)) .okays) → Confirmed i (far-log n (run cs (beginning s t)) .given))
+    × (List·Memᴰ i (far-log n (run cs (beginning s t)) .okays) → Confirmed i (near-log n (run cs (beginning s t)) .given))
