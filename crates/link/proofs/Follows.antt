@@ -54,7 +54,7 @@ rel-append : {Q R : Queue} {q r : M.Queue} → RelQueue Q q → RelQueue R r →
 rel-append q-none t = t
 rel-append (q-also w q) t = q-also w (rel-append q t)
 
-rel-purge : (d : ℕ) {Q : Queue} {q : M.Queue} → RelQueue Q q → RelQueue (purge d Q) (M.purge d q)
+pub rel-purge : (d : ℕ) {Q : Queue} {q : M.Queue} → RelQueue Q q → RelQueue (purge d Q) (M.purge d q)
 unfolding M.purge
 rel-purge d q-none = q-none
 rel-purge d (q-also {d = n} {ev} {l} {Q} {q} w t) = go (eqb n d) (rel-purge d t)
@@ -95,11 +95,11 @@ pub rel-inside : (d : ℕ) {A : End} {a : M.End} → RelEnd A a → inside d A �
 unfolding M.inside
 rel-inside d (rel-end {s} {st} {d = n} l w f) = ap (λ b. both b (eqb n d)) (rel-busy s st)
 
-rel-hang : (h : Bool) {A : End} {a : M.End} → RelEnd A a → RelEnd (hang h A) (M.set-hung h a)
-unfolding M.set-hung
-rel-hang h (rel-end l w f) = rel-end l w f
+rel-hang : {A : End} {a : M.End} → RelEnd A a → RelEnd (hang A) (M.hang a)
+unfolding M.hang
+rel-hang (rel-end l w f) = rel-end l w f
 
-rel-update : {F : ℕ → Log} {f : ℕ → M.Log} (d : ℕ) {X : Log} {x : M.Log} → ((n : ℕ) → RelLog (F n) (f n)) → RelLog X x → (n : ℕ) → RelLog (update F d X n) (M.update f d x n)
+pub rel-update : {F : ℕ → Log} {f : ℕ → M.Log} (d : ℕ) {X : Log} {x : M.Log} → ((n : ℕ) → RelLog (F n) (f n)) → RelLog X x → (n : ℕ) → RelLog (update F d X n) (M.update f d x n)
 unfolding M.update
 rel-update {F} {f} d {X} {x} r p n = go (eqb n d)
   where
@@ -119,8 +119,8 @@ rel-post d {ev} {l} v (rel-world {O = O} {o = o} (rel-end {h = h} t u f) b q i) 
 
 rel-sever : (d r : ℕ) (b : Bool) {W : World} {w : M.World} → RelWorld W w → RelWorld (sever d b W) (M.sever d r b w)
 unfolding M.sever
-rel-sever d r true (rel-world a b o i) = rel-world (rel-hang false a) (rel-hang true b) (q-also (wire-cut r) (rel-purge d o)) (rel-purge d i)
-rel-sever d r false (rel-world a b o i) = rel-world (rel-hang false a) b (rel-purge d o) (rel-purge d i)
+rel-sever d r true (rel-world a b o i) = rel-world a (rel-hang b) (q-also (wire-cut r) (rel-purge d o)) (rel-purge d i)
+rel-sever d r false (rel-world a b o i) = rel-world a b (rel-purge d o) (rel-purge d i)
 
 rel-far : (d : ℕ) {W : World} {w : M.World} → RelWorld W w → farInside d W ≡ M.far-inside d w
 unfolding M.far-inside
@@ -135,7 +135,7 @@ rel-cut d n {W} {w} r = rw (rel-far d r) (rel-sever d n (M.far-inside d w) r)
 
 rel-carry : (xs : List Extension) (d : ℕ) {l : Line} → FineLine l → {W : World} {w : M.World} → RelWorld W w
     → RelWorld (carry d (handedOver xs (lineOf (send l))) W) (M.carry (count xs) d l w)
-unfolding carry handedOver M.carry
+unfolding carry handedOver M.carry M.extended
 rel-carry xs d (starts t g) r = rel-post d (wire-sent xs (starts t g) refl) r
 rel-carry xs d (replies g) r = rel-post d (wire-sent xs (replies g) refl) r
 rel-carry xs d (dats g) r = rel-post d (wire-sent xs (dats g) refl) r
@@ -145,24 +145,24 @@ rel-carry xs d (cuts {r = n}) r = rel-cut d n r
 
 -- ---- all lines of a step
 
--- a line for the user does not reach the link
-rel-user : (xs : List Extension) (d : ℕ) (o : Out) → FineOut o → {W : World} {w : M.World} → RelWorld W w
-    → (os : List Out) → ({W : World} {w : M.World} → RelWorld W w → RelWorld (carryAll d (map (λ o. handedOver xs (lineOf o)) os) W) (M.emit (count xs) d os w))
-    → RelWorld (carryAll d (map (λ o. handedOver xs (lineOf o)) (o ∷ os)) W) (M.emit (count xs) d (o ∷ os) w)
-unfolding carry handedOver M.emit
-rel-user xs d (give t (plain i j q b)) (gives al) r os f = f r
-rel-user xs d (give t (sure i j q b)) (gives al) r os f = f r
-rel-user xs d (answer i k g) (answers al) r os f = f r
-rel-user xs d ended ends r os f = f r
-rel-user xs d (gone k) gones r os f = f r
-rel-user xs d (seen k) seens r os f = f r
-rel-user xs d (send l) (sends g) r os f = f (rel-carry xs d g r)
+-- the first line, where the others are known to go on
+abbrev Goes : List Extension → ℕ → List Out → Type 0
+Goes xs d os = (W : World) (w : M.World) → RelWorld W w → RelWorld (carryAll d (map (λ o. handedOver xs (lineOf o)) os) W) (M.emit (count xs) d os w)
 
-rel-emit : (xs : List Extension) (d : ℕ) (os : List Out) → AllFine os → {W : World} {w : M.World} → RelWorld W w
-    → RelWorld (carryAll d (map (λ o. handedOver xs (lineOf o)) os) W) (M.emit (count xs) d os w)
+first-line : (xs : List Extension) (d : ℕ) (o : Out) → FineOut o → (os : List Out) → Goes xs d os → Goes xs d (o ∷ os)
+unfolding carry handedOver M.emit
+first-line xs d (give t (plain i j q b)) (gives al) os f W w r = f W w r
+first-line xs d (give t (sure i j q b)) (gives al) os f W w r = f W w r
+first-line xs d (answer i k g) (answers al) os f W w r = f W w r
+first-line xs d ended ends os f W w r = f W w r
+first-line xs d (gone k) gones os f W w r = f W w r
+first-line xs d (seen k) seens os f W w r = f W w r
+first-line xs d (send l) (sends g) os f W w r = f _ _ (rel-carry xs d g r)
+
+rel-emit : (xs : List Extension) (d : ℕ) (os : List Out) → AllFine os → Goes xs d os
 unfolding M.emit
-rel-emit xs d [] none-left r = r
-rel-emit xs d (o ∷ os) (also g gs) r = rel-user xs d o g r os (rel-emit xs d os gs)
+rel-emit xs d [] none-left W w r = r
+rel-emit xs d (o ∷ os) (also g gs) W w r = first-line xs d o g os (rel-emit xs d os gs) W w r
 
 -- ---- an outcome put into the world
 
@@ -175,15 +175,29 @@ pub record Known (s : Setup) (o : Outcome) : Type 0 where
   pub are-named : NamedOutcome o
   pub keeps : Keeps s o
 
-module _ (xs : List Extension) {H : Log → Log} {h : M.Log → M.Log} (e : RelHeard H h) where
-  pub rel-act : (new : List ℕ) {s : Setup} {st : State} {d : ℕ} {k : Bool} {F : ℕ → Log} {f : ℕ → M.Log} {acc ans : List ℕ} {B : End} {b : M.End} {O I : Queue} {p i : M.Queue} {next : ℕ}
-      → (o : Outcome) → Known s o → Limited s → Within s st → ((n : ℕ) → RelLog (F n) (f n)) → RelEnd B b → RelQueue O p → RelQueue I i
-      → RelWorld (act xs new H o (world (at (picture s st) d k F acc ans) B O I next)) (M.act (count xs) new h o (M.world (M.at s st d k f acc ans) b p i next))
+-- the near end of related worlds
+pub data Near (s : Setup) (st : State) : World → M.World → Type 0 where
+  near : {d : ℕ} {k : Bool} {F : ℕ → Log} {f : ℕ → M.Log} {acc ans : List ℕ} {B : End} {b : M.End} {O I : Queue} {p i : M.Queue} {next : ℕ}
+      → Limited s → Within s st → ((n : ℕ) → RelLog (F n) (f n)) → RelEnd B b → RelQueue O p → RelQueue I i
+      → Near s st (world (at (picture s st) d k F acc ans) B O I next) (M.world (M.at s st d k f acc ans) b p i next)
+
+pub of-near : {s : Setup} {st : State} {W : World} {w : M.World} → Near s st W w → RelWorld W w
+of-near (near l w f b o i) = rel-world (rel-end l w f) b o i
+
+module _ (xs : List Extension) (new : List ℕ) {H : Log → Log} {h : M.Log → M.Log} (e : RelHeard H h) {s : Setup} {st : State} where
+  pub rel-act : (o : Outcome) → Known s o → {W : World} {w : M.World} → Near s st W w → RelWorld (act xs new H o W) (M.act (count xs) new h o w)
   unfolding act M.act
-  rel-act new (refused n) v l w r B O I = rel-world (rel-end l w r) B O I
-  rel-act new {s} {st} {d} {F = F} {f = f} (done u os) v l w r B O I = go (v .are-fine) (v .are-named) (v .keeps)
+  rel-act (refused n) v r = of-near r
+  rel-act (done u os) v (near {d} {k} {F} {f} {acc} {ans} {B} {b} {O} {I} {p} {i} {next} l w r e' o' i') = go (v .are-fine) (v .are-named) (v .keeps)
     where
-      go : FineOutcome (done u os) → NamedOutcome (done u os) → Keeps s (done u os) → _
+      go : FineOutcome (done u os) → NamedOutcome (done u os) → Keeps s (done u os)
+          → RelWorld (act xs new H (done u os) (world (at (picture s st) d k F acc ans) B O I next)) (M.act (count xs) new h (done u os) (M.world (M.at s st d k f acc ans) b p i next))
       go (fine-done g) (n-done m) (goes z) =
           rw (next-picture s l st w u os, rel-answers xs os g m)
-          (rel-emit xs d os g (rel-world (rel-end l z (rel-update d r (rel-outs xs os g m (e (F d) (f d) (r d))))) B O I))
+          (rel-emit xs d os g _ _ (rel-world (rel-end l z (rel-update d r (rel-outs xs os g m (e (F d) (f d) (r d))))) e' o' i'))
+
+  pub rel-act-there : (o : Outcome) → Known s o → {W T : World} {w t : M.World} → RelWorld W w → Near s st T t
+      → RelWorld (act-there xs new H o W T) (M.act-there (count xs) new h o w t)
+  unfolding act-there M.act-there
+  rel-act-there (refused n) k r t = r
+  rel-act-there (done u os) k r t = rel-act (done u os) k t

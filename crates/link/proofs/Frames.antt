@@ -70,7 +70,7 @@ decode-extended xs m a = go (added xs (encode m)) refl
     go true e =
         let v = both-left (validExtensions xs) (both (octets (extensionOctets xs)) (leb (length (follow xs (encode m))) 1024)) (sym e) in
         let l = both-right (octets (extensionOctets xs)) (leb (length (follow xs (encode m))) 1024)
-            (both-right (validExtensions xs) (both (octets (extensionOctets xs)) (leb (length (follow xs (encode m))) 1024)) (sym e)) in
+        (both-right (validExtensions xs) (both (octets (extensionOctets xs)) (leb (length (follow xs (encode m))) 1024)) (sym e)) in
         let h = leb-true (length (follow xs (encode m))) 1024 l in
         rw (follow-is xs m) (Laws.extended m xs a v (rw (follow-is xs m) at h))
 

@@ -4,3 +4,5 @@ pub mod Frames
 pub mod Related
 pub mod Wires
 pub mod Follows
+pub mod Steps
+pub mod Demand

@@ -150,8 +150,9 @@ busy u = not (eqb (u .state) 0)
 abbrev pub inside : ℕ → End → Bool
 inside d (at u n h f acc ans) = both (busy u) (eqb n d)
 
-abbrev pub hang : Bool → End → End
-hang h (at u n h′ f acc ans) = at u n h f acc ans
+-- cut off, and not told yet
+abbrev pub hang : End → End
+hang (at u n h f acc ans) = at u n true f acc ans
 
 -- A line joins the others: "Each direction keeps order, loses and repeats nothing." "Until that end hears or leaves, what it sends in the dialogue is
 -- dropped."
@@ -160,8 +161,8 @@ post d ev (world (at u n h f acc ans) b out inn next) = world (at u n h f acc an
 
 -- 35: "takes that dialogue's lines out of both directions and gives 15 … to an end still in it, before anything of a later one"
 abbrev pub sever : ℕ → (farIn : Bool) → World → World
-sever d true (world a b out inn next) = world (hang false a) (hang true b) ((d, 0x15 ∷ []) ∷ purge d out) (purge d inn) next
-sever d false (world a b out inn next) = world (hang false a) b (purge d out) (purge d inn) next
+sever d true (world a b out inn next) = world a (hang b) ((d, 0x15 ∷ []) ∷ purge d out) (purge d inn) next
+sever d false (world a b out inn next) = world a b (purge d out) (purge d inn) next
 
 abbrev pub farInside : ℕ → World → Bool
 farInside d (world a b out inn next) = inside d b
@@ -212,11 +213,12 @@ ask-with xs new true c o w = act xs new noteNothing o w
 ask-with xs new false true o w = w
 ask-with xs new false false o w = act-there xs new noteNothing o w (fresh w)
 
+-- 01 and 02; 03 and 04 hand no frame to the link
 unfoldable pub ask-near : List Extension → (ev : List ℕ) → World → World
 ask-near xs ev (world (at u d h f acc ans) b out inn next) =
     pick (leb (kindOf ev) 0x02)
     (ask-with xs (asksFor ev) (busy u) (startComes inn) (step 1024 u ev) (world (at u d h f acc ans) b out inn next))
-    (act xs [] noteNothing (step 1024 u ev) (world (at u d h f acc ans) b out inn next))
+    (act [] [] noteNothing (step 1024 u ev) (world (at u d h f acc ans) b out inn next))
 
 -- "In: 01 transfer and 02 confirmed transfer …; 03 G-END; 04 one tick": what comes from a user or the clock
 abbrev pub fromUser : List ℕ → Bool

@@ -37,7 +37,7 @@ unfolding asked-ids on-vetted ask-at
 inv-vetted x a none {u} {inn} i = rw (ask-refused x [] (busy u) (start-comes inn) 2) i
 inv-vetted x a (some m) {u} i = rw (shot-is (bodyOf m .maintained) a m u) (inv-ask (bar a m u) (bodyOf m .maintained) x a m refl i)
 
-inv-near : (c : Act) (w : World) → Inv w → Inv (do-near c w)
+pub inv-near : (c : Act) (w : World) → Inv w → Inv (do-near c w)
 unfolding do-near ask-near tick-near tick-at on-request
 inv-near (request c x a r) (world (at s u d h f acc ans) b out inn next) i = inv-vetted x a (vet c r) i
 inv-near end w i = inv-end i
@@ -55,7 +55,7 @@ unfolding run
 inv-run [] w i = i
 inv-run (c ∷ cs) w i = inv-run cs (do-at (c .0) (c .1) w) (inv-at (c .0) (c .1) w i)
 
-inv-beginning : (s t : Setup) → Inv (beginning s t)
+pub inv-beginning : (s t : Setup) → Inv (beginning s t)
 unfolding beginning new-end waitingOf
 inv-beginning s t =
     free {s = s} {t = t} {d = 0} {e = 0} {h = false} {i = false} {f = λ n. blank} {g = λ n. blank} {acc = []} {ans = []} {acc′ = []} {ans′ = []}
