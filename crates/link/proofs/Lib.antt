@@ -6,3 +6,4 @@ pub mod Wires
 pub mod Follows
 pub mod Steps
 pub mod Demand
+pub mod Examples
