@@ -19,7 +19,9 @@ use Rattle.link.specs.Wire.{kindOf, octets, handedOver, arriving}
 -- ---------------------------------------------------------------- what is written down of a dialogue, by end
 
 -- `handed`: the frames with confirmation 0 or 1 that the unit handed to the link ("in line 30 or 32"), with what a later edition added; `given`:
--- those that its user was given ("by line 20 or 21"); `told`: those of its answers, lines 22, that say "successful delivery".
+-- those that its user was given ("by line 20 or 21"); `told`: those of its answers, lines 22, that say "successful delivery"; `fate`: how far the end
+-- has come toward the dialogue's end: it goes on, it sent 33 (asked), it sent 33 and got 14 accepted (granted), as the starter it got 31 rejected
+-- (turned), there was an abort (broken); pair_laws specs/Model has the type.
 pub record Log : Type 0 where
   pub handed : List (List ℕ)
   pub given : List (List ℕ)
