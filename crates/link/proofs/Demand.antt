@@ -1,34 +1,29 @@
 -- DEMAND 3 HOLDS, of every run of two units and a link, in octets. Closed by the rule book's pair (crate pair_laws), which each run follows (Steps).
-use Prim.Native.Nat.{ℕ, zero, suc}
+use Prim.Native.Nat.{ℕ}
 use mathlib.Core.Path.{_≡_, refl, ap, sym, _∙_}
 use mathlib.Core.Bool.{Bool, true, false}
-use mathlib.Core.Option.{Option, some}
 use mathlib.Core.List.{List, [], _∷_, _++_, map}
 use native.Mathlib.Omega.{arith}
-use lib.Dec.{eqb}
 use lib.ListN.{length}
-use Rattle.octets.specs.Choice.{pick, both, either}
-use Rattle.frame.specs.Message.{Message}
-use Rattle.book.specs.Book.{Msg, State, idle, single, multi, ending, assoc, Setup, Outcome, refused, done}
+use Rattle.octets.specs.Choice.{pick, either}
+use Rattle.book.specs.Book.{Msg, State, idle, single, multi, ending, assoc, Setup, Outcome, refused}
 use Rattle.book.specs.Picture.{picture}
 use Rattle.book.specs.Sound.{withinLimits}
 use Rattle.book.specs.Step.{step, setUp}
 use Rattle.pair_laws.specs.Model as M
 use Rattle.pair_laws.specs.Statement as S
-use Rattle.pair_laws.specs.Statement.{Prefix, InOrder, ids}
+use Rattle.pair_laws.specs.Statement.{Prefix, ids}
 use Rattle.pair_laws.proofs.Inv.{Inv}
 use Rattle.pair_laws.proofs.Close.{inv-swap, demanded}
 use Rattle.pair_laws.proofs.Demand.{inv-near, inv-beginning}
 use Rattle.pair_laws.proofs.Taken.{taken}
 use Rattle.pair_laws.proofs.Named.{suits}
 use Rattle.sound_laws.proofs.Within.{Within, in-idle, Limited}
-use Rattle.link.specs.Wire.{kindOf}
-use Rattle.link.specs.Link.{Log, blank, fieldsIn, identifier, answers, named, End, at, Queue, World, world, swap, inside, asHeard, fromUser, ask-near, deliver-near, break-near, Side, near, far, Act, user, deliver, abort, do-near, do-at, run, new-end, beginning}
-use Rattle.link.specs.Statement.{Good, Answered, logOf, isTaken, nextTaken, Demand3, demand3, Theorem}
+use Rattle.link.specs.Link.{Log, blank, fieldsIn, End, at, Queue, World, world, swap, inside, asHeard, fromUser, ask-near, Side, near, far, Act, user, deliver, abort, do-near, do-at, run, new-end, beginning}
+use Rattle.link.specs.Statement.{Good, isTaken, nextTaken, Demand3, demand3, Theorem}
 use Rattle.link.proofs.Related.{RelLog, fieldsOf}
-use Rattle.link.proofs.Wires.{Wire}
 use Rattle.link.proofs.Pictures.{step-picture}
-use Rattle.link.proofs.Follows.{RelEnd, rel-end, RelQueue, q-none, q-also, RelWorld, rel-world, rel-swap, is-start, rel-inside}
+use Rattle.link.proofs.Follows.{rel-end, RelQueue, q-none, q-also, RelWorld, rel-world, rel-swap, is-start, rel-inside}
 use Rattle.link.proofs.Steps.{Follows, stays, goes-on, rel-deliver, rel-break, rel-user, wire-heard}
 
 -- ---- every run is followed

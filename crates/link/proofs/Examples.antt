@@ -18,7 +18,7 @@ use Rattle.pair_laws.specs.Model.{going, granted, broken, ask, grant}
 use Rattle.pair_laws.specs.Statement as Statement
 use Rattle.pair_laws.specs.Statement.{in-order}
 use Rattle.link.specs.Wire.{extended, handedOver}
-use Rattle.link.specs.Link.{Log, noteLine, noteHeard, fieldsIn, identifier, answers, asksFor, End, at, Queue, World, world, carry, act, act-there, ask-near, reach, break-near, Side, near, far, Act, user, deliver, abort, run, beginning}
+use Rattle.link.specs.Link.{Log, noteLine, noteHeard, identifier, answers, asksFor, at, Queue, World, world, carry, act, act-there, ask-near, reach, break-near, Side, near, far, Act, user, deliver, abort, run, beginning}
 
 -- two units, with 01's limits
 abbrev G1 : Value

@@ -1,9 +1,9 @@
 -- What a unit gives out can be read: every frame in its lines is one that 01 allows, and of edition 1. Closed by cases on the rule and the state.
 use Prim.Native.Nat.{ℕ, zero, suc, _<_, _≤_}
-use mathlib.Core.Path.{_≡_, refl, sym, _∙_}
+use mathlib.Core.Path.{_≡_, refl, sym}
 use mathlib.Core.Bool.{Bool, true, false}
 use mathlib.Core.Option.{Option, none, some}
-use mathlib.Core.List.{List, [], _∷_, _++_}
+use mathlib.Core.List.{List, [], _∷_}
 use native.Mathlib.Omega.{arith}
 use borrow.Author.Tests.{ltb-true, leb-true, le-ltb, ne-eqb, eqb-false}
 use lib.Dec.{eqb, ltb, leb}
@@ -13,9 +13,9 @@ use Rattle.frame.specs.Message.{lacks}
 use Rattle.frame.specs.Writing.{Allowed, faultIn, wrongSender, wrongData}
 use Rattle.book.specs.declared.Terms.{Terms}
 use Rattle.book.specs.Sound.{withinLimits}
-use Rattle.book.specs.Book.{Body, Msg, plain, sure, Kind, ok, not-ok, unknown, Frame, msg, note, Reading, bad, good, Line, start, reply, dat, fin, finOk, cut, Result, uncertain, failed, Out, give, answer, ended, gone, seen, send, State, idle, single, multi, ending, assoc, Setup, Outcome, refused, done, settled, idsOf, bodyOf, without, ack, ack-body, local, unsure, refuse-all, with-seen, fall, quiet-fall, vet, bar, on-single, on-multi, on-shot, on-vetted, on-request, on-end, on-tick, greet, first-contact, on-start, result-of, single-result, answered-by, begun, on-reply, noted, left-waiting, on-dat, on-fin, on-finOk, on-abort}
-use Rattle.book.specs.View.{msgMessage, frameMessage}
-use Rattle.sound_laws.proofs.Within.{Rated, Within, in-idle, in-single, in-multi, in-ending, in-assoc, Limited, Keepable, both-right}
+use Rattle.book.specs.Book.{Body, Msg, plain, sure, Kind, ok, not-ok, unknown, Frame, msg, note, Reading, bad, good, Line, start, reply, dat, fin, finOk, cut, Result, Out, give, answer, ended, gone, seen, send, State, idle, single, multi, ending, assoc, Setup, Outcome, refused, done, settled, idsOf, bodyOf, without, ack, ack-body, local, unsure, refuse-all, with-seen, fall, quiet-fall, vet, bar, on-single, on-multi, on-shot, on-vetted, on-request, on-end, on-tick, greet, first-contact, on-start, answered-by, begun, on-reply, noted, on-dat, on-fin, on-finOk, on-abort}
+use Rattle.book.specs.View.{frameMessage}
+use Rattle.sound_laws.proofs.Within.{Rated, Within, in-multi, Limited, Keepable, both-right}
 
 -- ---- what is fine
 

@@ -1,34 +1,27 @@
 -- The pair in octets follows the pair of the rule book: what a step makes of related worlds is related. Closed by cases on the line, and by
 -- induction on the lines of a step.
-use Prim.Native.Nat.{ℕ, zero, suc, _<_, _≤_}
-use mathlib.Core.Path.{_≡_, refl, ap, sym, subst, _∙_}
-use mathlib.Core.Bool.{Bool, true, false, not}
-use mathlib.Core.Option.{Option, none, some}
+use Prim.Native.Nat.{ℕ}
+use mathlib.Core.Path.{_≡_, refl, ap, _∙_}
+use mathlib.Core.Bool.{Bool, true, false}
 use mathlib.Core.List.{List, [], _∷_, _++_, map}
-use native.Mathlib.Omega.{arith}
-use lib.Dec.{eqb, ltb, leb}
-use lib.ListN.{drop, getD}
-use Rattle.octets.specs.Choice.{pick, both, either}
+use lib.Dec.{eqb}
+use Rattle.octets.specs.Choice.{pick, both}
 use Rattle.frame.specs.Message.{Extension}
-use Rattle.book.specs.declared.Terms.{Terms}
-use Rattle.book.specs.declared.Unit.{Unit as Value}
-use Rattle.book.specs.Book.{Msg, plain, sure, Line, start, reply, dat, fin, finOk, cut, lost, Out, give, answer, ended, gone, seen, send, State, idle, single, multi, ending, assoc, Setup, Outcome, refused, done}
+use Rattle.book.specs.Book.{plain, sure, Line, start, reply, dat, fin, finOk, cut, lost, Out, give, answer, ended, gone, seen, send, State, idle, single, multi, ending, assoc, Setup, Outcome, refused, done}
 use Rattle.book.specs.Lines.{lineOf}
 use Rattle.book.specs.Picture.{picture}
-use Rattle.book.specs.Events.{eventOf, frameFrom}
-use Rattle.book.specs.Step.{does, step, turnOf}
+use Rattle.book.specs.Step.{step}
 use Rattle.pair_laws.specs.Model as M
-use Rattle.pair_laws.specs.Model.{Fate, broken}
-use Rattle.pair_laws.proofs.Named.{AllNamed, n-none, n-also, NamedOutcome, n-refused, n-done}
+use Rattle.pair_laws.proofs.Named.{NamedOutcome, n-done}
 use Rattle.sound_laws.proofs.Within.{Within, Limited}
-use Rattle.sound_laws.proofs.Rules.{Keeps, refuses, goes}
-use Rattle.link.specs.Wire.{kindOf, handedOver, arriving}
-use Rattle.link.specs.Link.{Log, blank, update, noteFate, noteLines, noteNothing, answersIn, Queue, End, at, World, world, swap, purge, busy, inside, hang, post, sever, farInside, nearInside, carry, carryAll, linesOf, act, act-there, fresh, startComes, join, break-end, warn, break-both, break-near}
-use Rattle.link.proofs.Fine.{FineLine, starts, replies, dats, fins, finOks, cuts, FineOut, gives, answers, ends, gones, seens, sends, AllFine, none-left, also, FineOutcome, barred, fine-done}
+use Rattle.sound_laws.proofs.Rules.{Keeps, goes}
+use Rattle.link.specs.Wire.{kindOf, handedOver}
+use Rattle.link.specs.Link.{Log, update, Queue, End, at, World, world, swap, purge, busy, inside, hang, post, sever, farInside, nearInside, carry, carryAll, act, act-there, startComes}
+use Rattle.link.proofs.Fine.{FineLine, starts, replies, dats, fins, finOks, cuts, FineOut, gives, answers, ends, gones, seens, sends, AllFine, none-left, also, FineOutcome, fine-done}
 use Rattle.link.proofs.Frames.{count}
-use Rattle.link.proofs.Related.{RelLog, rel-fate, rel-outs, rel-answers}
-use Rattle.link.proofs.Wires.{kindIn, Wire, wire-cut, wire-lost, wire-sent}
-use Rattle.link.proofs.Pictures.{step-picture, next-picture}
+use Rattle.link.proofs.Related.{RelLog, rel-outs, rel-answers}
+use Rattle.link.proofs.Wires.{kindIn, Wire, wire-cut, wire-sent}
+use Rattle.link.proofs.Pictures.{next-picture}
 
 -- ---- related ends, queues, worlds
 

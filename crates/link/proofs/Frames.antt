@@ -1,21 +1,21 @@
 -- A frame on its way: with any extension fields that a later edition adds it is read as the same message. Closed by the laws of the frame.
-use Prim.Native.Nat.{ℕ, zero, suc, _+_, _<_, _≤_}
+use Prim.Native.Nat.{ℕ, _+_}
 use mathlib.Core.Path.{_≡_, refl, ap, sym, _∙_}
 use mathlib.Core.Bool.{Bool, true, false}
-use mathlib.Core.Option.{Option, none, some}
-use mathlib.Core.List.{List, [], _∷_, _++_, append-nil, append-assoc}
+use mathlib.Core.Option.{Option, some}
+use mathlib.Core.List.{List, [], _∷_, _++_, append-nil}
 use native.Mathlib.Omega.{arith}
 use borrow.Author.Tests.{leb-true}
-use lib.Dec.{ltb, leb, eqb}
-use lib.ListN.{length, getD}
+use lib.Dec.{leb}
+use lib.ListN.{length}
 use Rattle.octets.specs.Choice.{pick, both}
 use Rattle.frame.specs.Message.{Message, Extension, present}
 use Rattle.frame.specs.Encoding.{weight, firstOctet, typeOctets, numberOctets, senderOctets, dataOctets, extensionOctets, validExtensions, frameOf, encode}
-use Rattle.frame.specs.Decoding.{Decoded, valid, fault, decode}
+use Rattle.frame.specs.Decoding.{valid, decode}
 use Rattle.frame.specs.Writing.{Allowed}
 use Rattle.frame.proofs.Laws as Laws
-use Rattle.book.specs.Book.{Body, Msg, plain, sure, Kind, ok, not-ok, unknown, Frame, msg, note, Reading, bad, good, idsOf}
-use Rattle.book.specs.View.{viewed, heard, readingIn, kindNumber, msgMessage, frameMessage, msgOctets, frameOctets}
+use Rattle.book.specs.Book.{Body, Msg, plain, sure, Kind, ok, not-ok, unknown, Frame, msg, note, good, idsOf}
+use Rattle.book.specs.View.{heard, readingIn, msgMessage, frameMessage, frameOctets}
 use Rattle.book.specs.Step.{orNothing}
 use Rattle.book.proofs.Views.{view-back}
 use Rattle.sound_laws.proofs.Within.{both-left, both-right}

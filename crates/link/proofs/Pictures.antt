@@ -1,16 +1,13 @@
 -- A unit that is the picture of a state within its limits: what it says to an event is what the rule book says in that state, and its next picture is
 -- that of the next state. Closed by cases on the state.
-use Prim.Native.Nat.{ℕ, _-_, _≤_}
-use mathlib.Core.Path.{_≡_, refl, ap, sym, _∙_}
-use mathlib.Core.Bool.{Bool, true, false}
-use mathlib.Core.List.{List, [], _∷_}
+use Prim.Native.Nat.{ℕ, _-_}
+use mathlib.Core.Path.{_≡_, refl, ap}
+use mathlib.Core.List.{List}
 use lib.ListN.{length, take, drop, replicate}
 use lib.Seq.{take-append-seam}
-use Rattle.octets.specs.Choice.{pick}
-use Rattle.book.specs.Book.{Msg, msg, Reading, good, State, idle, single, multi, ending, assoc, Setup, Outcome, refused, done, Out, idsOf}
-use Rattle.book.specs.View.{readingIn, msgOctets, msgMessage, frameOctets, frameMessage}
-use Rattle.book.specs.Picture.{padded, picture, setupOf, stateOf, msgIn, noTerms}
-use Rattle.book.specs.Sound.{soundOf}
+use Rattle.book.specs.Book.{Msg, msg, good, State, idle, single, multi, ending, assoc, Setup, done, Out}
+use Rattle.book.specs.View.{readingIn, msgOctets, frameOctets, frameMessage}
+use Rattle.book.specs.Picture.{padded, picture, setupOf, stateOf}
 use Rattle.book.specs.Events.{eventOf, frameFrom}
 use Rattle.book.specs.Step.{does, step, turnOf}
 use Rattle.book.proofs.Views.{reads-octets}

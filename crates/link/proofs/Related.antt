@@ -1,25 +1,25 @@
 -- What is written down of a dialogue in octets, and what the rule book's model writes down of it in messages: the same. Closed by cases on the
 -- output line.
-use Prim.Native.Nat.{ℕ, zero, suc, _<_, _≤_}
+use Prim.Native.Nat.{ℕ}
 use mathlib.Core.Path.{_≡_, refl, ap, sym, _∙_}
-use mathlib.Core.Bool.{Bool, true, false}
-use mathlib.Core.Option.{Option, none, some}
+use mathlib.Core.Bool.{false}
+use mathlib.Core.Option.{Option, some}
 use mathlib.Core.List.{List, [], _∷_, _++_, map, append-nil, append-assoc}
-use lib.Dec.{eqb, ltb, leb}
-use lib.ListN.{length, take, drop, getD}
-use Rattle.octets.specs.Choice.{pick, both, either}
+use lib.Dec.{eqb}
+use lib.ListN.{drop}
+use Rattle.octets.specs.Choice.{pick}
 use Rattle.frame.specs.Message.{Message, Extension}
 use Rattle.book.specs.declared.Terms.{Terms}
-use Rattle.book.specs.Book.{Body, Msg, plain, sure, Kind, Frame, msg, note, Reading, bad, good, Line, start, reply, dat, fin, finOk, cut, lost, Result, success, failed, uncertain, Out, give, answer, ended, gone, seen, send, State, Outcome, refused, done, idsOf}
+use Rattle.book.specs.Book.{Msg, plain, sure, Frame, msg, note, Line, start, reply, dat, fin, finOk, cut, Result, success, failed, uncertain, Out, give, answer, ended, gone, seen, send, idsOf}
 use Rattle.book.specs.View.{msgMessage, frameMessage, msgOctets, frameOctets}
 use Rattle.book.specs.Lines.{lineOf}
 use Rattle.pair_laws.specs.Model as M
-use Rattle.pair_laws.specs.Model.{Fate, going, asked, granted, turned, broken, ask}
+use Rattle.pair_laws.specs.Model.{Fate, broken, ask}
 use Rattle.pair_laws.specs.Statement.{ids}
-use Rattle.pair_laws.proofs.Named.{Names, names, NamedOut, n-give, n-answer, n-ended, n-gone, n-seen, n-send, AllNamed, n-none, n-also}
+use Rattle.pair_laws.proofs.Named.{Names, names, NamedOut, n-answer, AllNamed, n-none, n-also}
 use Rattle.link.specs.Wire.{kindOf, extended, handedOver}
-use Rattle.link.specs.Link.{Log, noteHanded, noteGiven, noteTold, noteFate, isMessage, noteMessage, noteLine, noteLines, fieldsIn, identifier, answers, answersIn, named}
-use Rattle.link.proofs.Fine.{AllowedFrame, FineRead, fine, FineHeld, nothing, held, FineLine, starts, replies, dats, fins, finOks, cuts, FineOut, gives, answers as tells, ends, gones, seens, sends, AllFine, none-left, also}
+use Rattle.link.specs.Link.{Log, noteHanded, noteGiven, noteTold, noteFate, noteMessage, noteLine, noteLines, fieldsIn, identifier, answers, answersIn, named}
+use Rattle.link.proofs.Fine.{AllowedFrame, fine, nothing, held, FineLine, starts, replies, dats, fins, finOks, cuts, FineOut, gives, answers as tells, ends, gones, seens, sends, AllFine, none-left, also}
 use Rattle.link.proofs.Frames.{none-extended, message-is, note-is-none, fields-of, fields-bare, names-message, names-answer}
 
 -- ---- a log

@@ -1,24 +1,24 @@
 -- Each step of the pair in octets is a step of the rule book's pair, or none. Closed by what a unit that is a picture says to an event (Pictures).
 use Prim.Native.Nat.{ℕ, zero, suc, _+_, _<_, _≤_}
 use mathlib.Core.Path.{_≡_, refl, ap, sym, subst, fun-ext, _∙_}
-use mathlib.Core.Bool.{Bool, true, false, not}
+use mathlib.Core.Bool.{Bool, true, false}
 use mathlib.Core.Option.{Option, none, some}
-use mathlib.Core.List.{List, [], _∷_, _++_}
+use mathlib.Core.List.{List, [], _∷_}
 use native.Mathlib.Omega.{arith}
-use borrow.Author.Tests.{ltb-true, leb-true, leb-false, eqb-true, eqb-false}
+use borrow.Author.Tests.{ltb-true, leb-true}
 use lib.Dec.{eqb, ltb, leb}
 use lib.ListN.{length, drop, getD}
 use lib.Seq.{getD-drop}
-use Rattle.octets.specs.Choice.{pick, both, either}
+use Rattle.octets.specs.Choice.{pick, both}
 use Rattle.frame.specs.Message.{Extension}
 use Rattle.frame.specs.Reading.{octet}
 use Rattle.book.specs.declared.Terms.{Terms}
 use Rattle.book.specs.declared.Event.{Event}
 use Rattle.book.specs.declared.Event.the-variants.{Malformed, Transfer, End as Ending, Tick}
-use Rattle.book.specs.Book.{Msg, plain, sure, Frame, msg, note, Reading, bad, good, Line, start, reply, dat, fin, finOk, cut, lost, State, idle, single, multi, ending, assoc, Setup, Outcome, refused, done, idsOf, vet, late, on-vetted, on-request, on-end, on-tick}
+use Rattle.book.specs.Book.{Msg, plain, sure, msg, note, Reading, bad, good, Line, start, reply, dat, fin, finOk, cut, lost, State, idle, single, multi, ending, assoc, Setup, Outcome, refused, idsOf, vet, late, on-vetted, on-request, on-end, on-tick}
 use Rattle.book.specs.View.{readingIn, frameOctets}
 use Rattle.book.specs.Picture.{picture}
-use Rattle.book.specs.Events.{eventOf, frameFrom, byKind, withTerms, termsIn}
+use Rattle.book.specs.Events.{eventOf, byKind, withTerms, termsIn}
 use Rattle.book.specs.Step.{does, step}
 use Rattle.book.proofs.Views.{read-allowed, read-whole}
 use Rattle.pair_laws.specs.Model as M
@@ -26,11 +26,11 @@ use Rattle.pair_laws.proofs.Named.{Suits, SuitsNext, line-named, request-named,
 use Rattle.sound_laws.proofs.Within.{Within, Limited, Positive, positive, both-left, both-right}
 use Rattle.sound_laws.proofs.Rules.{Keeps, keeps-request, keeps-end, keeps-tick, keeps-start, keeps-reply, keeps-dat, keeps-fin, keeps-finOk, keeps-abort}
 use Rattle.link.specs.Wire.{kindOf, octets}
-use Rattle.link.specs.Link.{Log, identifier, asksFor, noteNothing, noteHeard, Queue, End, at, World, world, busy, inside, act, act-there, fresh, startComes, fromUser, join, ask-with, ask-near, asHeard, hear, hear-start, nearInside, nearUnit, reach, deliver-near, break-end, warn, break-both, break-near}
+use Rattle.link.specs.Link.{Log, identifier, asksFor, noteNothing, Queue, End, at, World, world, busy, inside, act, act-there, fresh, startComes, fromUser, join, ask-with, ask-near, asHeard, hear, hear-start, nearUnit, reach, deliver-near, break-end, warn, break-both, break-near}
 use Rattle.link.proofs.Fine.{Heard, faulty, whole, FineOutcome, Named, named, request-fine, end-fine, tick-fine, start-fine, reply-fine, dat-fine, fin-fine, finOk-fine, abort-fine}
 use Rattle.link.proofs.Frames.{added, count, names-message}
 use Rattle.link.proofs.Related.{RelLog, rel-fate}
-use Rattle.link.proofs.Wires.{HeardLine, kindIn, Wire, wire-cut, wire-lost, wire-finOk}
+use Rattle.link.proofs.Wires.{HeardLine, Wire, wire-lost, wire-finOk}
 use Rattle.link.proofs.Pictures.{step-picture}
 use Rattle.link.proofs.Follows.{RelEnd, rel-end, RelQueue, q-none, q-also, RelWorld, rel-world, is-start, rel-comes, rel-busy, rel-inside, rel-near, rel-purge, rel-update, Known, Near, near, of-near, rel-act, rel-act-there}
 

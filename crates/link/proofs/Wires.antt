@@ -1,20 +1,17 @@
 -- A line on its way: the octets that an end will hear say to its unit what the rule book's line says. Closed by reading the event back, by cases on
 -- the line.
-use Prim.Native.Nat.{ℕ, zero, suc, _<_, _≤_}
-use mathlib.Core.Path.{_≡_, refl, ap, sym, _∙_}
+use Prim.Native.Nat.{ℕ, suc}
+use mathlib.Core.Path.{_≡_, refl, ap, _∙_}
 use mathlib.Core.Bool.{Bool, true, false}
 use mathlib.Core.Option.{Option, none, some}
-use mathlib.Core.List.{List, [], _∷_, _++_}
+use mathlib.Core.List.{List, [], _∷_}
 use native.Mathlib.Omega.{arith}
 use borrow.Author.Tests.{ne-eqb, le-ltb, le-leb}
-use lib.Dec.{eqb, ltb, leb}
-use lib.ListN.{length, drop, getD}
-use Rattle.octets.specs.Choice.{pick, both, either}
+use lib.ListN.{length, drop}
 use Rattle.frame.specs.Message.{Extension}
 use Rattle.book.specs.declared.Terms.{Terms}
-use Rattle.book.specs.declared.Event.{Event}
-use Rattle.book.specs.declared.Event.the-variants.{StartAsked, StartAnswered, Data, EndAsked, EndAnswered, Aborted, Dropped}
-use Rattle.book.specs.Book.{Frame, Reading, bad, good, Line, start, reply, dat, fin, finOk, cut, lost, send, State, Setup, Outcome}
+use Rattle.book.specs.declared.Event.the-variants.{StartAsked, StartAnswered, Data}
+use Rattle.book.specs.Book.{Frame, Reading, good, Line, start, reply, dat, fin, finOk, cut, lost, send, State, Setup}
 use Rattle.book.specs.View.{readingIn, frameOctets}
 use Rattle.book.specs.Lines.{lineOf, acceptedNumber}
 use Rattle.book.specs.Events.{eventOf, termsIn, frameFrom}
@@ -23,8 +20,8 @@ use Rattle.pair_laws.specs.Model as M
 use Rattle.pair_laws.specs.Model.{broken, grant, turn}
 use Rattle.sound_laws.proofs.Within.{Rated}
 use Rattle.link.specs.Wire.{kindOf, extended, handedOver, arriving}
-use Rattle.link.specs.Link.{Log, noteFate, noteHeard}
-use Rattle.link.proofs.Fine.{AllowedFrame, FineRead, fine, FineHeld, nothing, held, FineLine, starts, replies, dats, fins, finOks, cuts, Heard, faulty, whole, HeardHeld, silent, spoken}
+use Rattle.link.specs.Link.{Log, noteHeard}
+use Rattle.link.proofs.Fine.{AllowedFrame, fine, nothing, held, FineLine, starts, replies, dats, fins, finOks, cuts, Heard, whole, HeardHeld, silent, spoken}
 use Rattle.link.proofs.Frames.{none-extended, count, reads}
 use Rattle.link.proofs.Frames as Frames
 use Rattle.link.proofs.Related.{RelLog, rel-fate}

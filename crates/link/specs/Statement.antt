@@ -9,10 +9,9 @@ use Rattle.octets.specs.Choice.{pick, either}
 use Rattle.book.specs.Book.{Outcome, refused, done}
 use Rattle.book.specs.Sound.{withinLimits}
 use Rattle.book.specs.Step.{step, setUp}
-use Rattle.book.specs.declared.Unit.{Unit as Value}
 use Rattle.pair_laws.specs.Statement.{Prefix, InOrder}
 use Rattle.link.specs.Wire.{kindOf}
-use Rattle.link.specs.Link.{Log, fieldsIn, identifier, answers, named, End, at, World, world, swap, inside, asHeard, Queue, Side, Act, run, beginning}
+use Rattle.link.specs.Link.{Log, fieldsIn, identifier, answers, named, End, at, World, world, inside, asHeard, Queue, Side, Act, run, beginning}
 
 -- What is promised of one dialogue; `a` and `b` are the near end's and the far end's log of it.
 pub record Good (a b : Log) : Type 0 where

@@ -1,10 +1,10 @@
 -- Lines on their way from one unit to the other, as octets (01, "Link rules of demand 3"), and what a later edition adds to them.
 use Prim.Native.Nat.{ℕ, _+_, _-_}
 use mathlib.Core.List.{List, [], _∷_, _++_}
-use mathlib.Core.Bool.{Bool, true, false}
+use mathlib.Core.Bool.{Bool, true}
 use lib.Dec.{ltb, leb, eqb}
 use lib.ListN.{length, take, drop, getD}
-use Rattle.octets.specs.Choice.{pick, both, either}
+use Rattle.octets.specs.Choice.{pick, both}
 use Rattle.frame.specs.Message.{Extension}
 use Rattle.frame.specs.Encoding.{extensionOctets, validExtensions}
 

@@ -1,11 +1,11 @@
 -- Laws of a line's answer: the room of what a unit lays, and the setup of a first line. Closed by cases on the outcome, and by the tests.
-use Prim.Native.Nat.{ℕ, zero, suc, _+_, _-_, _*_, _<_, _≤_}
+use Prim.Native.Nat.{ℕ, _+_, _-_, _<_, _≤_}
 use mathlib.Core.Path.{_≡_, refl, ap, sym, _∙_}
 use mathlib.Core.Bool.{Bool, true, false}
 use mathlib.Core.Option.{Option}
 use mathlib.Core.List.{List, [], _∷_, _++_}
 use native.Mathlib.Omega.{arith}
-use borrow.Author.Tests.{eq-eqb, ne-eqb}
+use borrow.Author.Tests.{ne-eqb}
 use lib.Dec.{eqb, ltb}
 use lib.ListN.{length, take, drop, getD, length-drop, drop-of-length-le}
 use lib.Seq.{take-all, sets}
@@ -15,7 +15,6 @@ use Rattle.octets.proofs.Puts as Puts
 use Rattle.text.specs.Printing.{printedIn}
 use Rattle.frame.specs.Reading.{octet}
 use Rattle.book.specs.Book.{Out, State, Outcome, refused, done}
-use Rattle.book.specs.Lines.{laidOut}
 use Rattle.book.specs.Sound.{soundOf, withinLimits}
 use Rattle.book.specs.Step.{step, octetsOf, turnOf, Turned, setUp}
 use Rattle.book.specs.declared.Unit.{Unit as Value}

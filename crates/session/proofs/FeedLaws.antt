@@ -3,10 +3,10 @@ use Prim.Native.Nat.{ℕ, zero, suc, _+_, _-_, _<_, _≤_}
 use mathlib.Core.Path.{_≡_, refl, ap, sym, _∙_}
 use mathlib.Core.Bool.{Bool, true, false}
 use mathlib.Core.Option.{none}
-use mathlib.Core.List.{List, [], _∷_, _++_, append-nil, append-assoc}
+use mathlib.Core.List.{List, [], _++_, append-nil, append-assoc}
 use native.Mathlib.Nat.{add-zero}
 use native.Mathlib.Omega.{arith}
-use borrow.Author.Tests.{le-ltb, lt-ltb, ltb-true, ltb-false}
+use borrow.Author.Tests.{ltb-true, ltb-false}
 use lib.Dec.{ltb}
 use lib.ListN.{length, take, drop, length-drop}
 use lib.Seq.{drop-drop, take-all, length-sets}
@@ -15,7 +15,7 @@ use Rattle.octets.specs.Put.{Put}
 use Rattle.octets.proofs.Puts as Puts
 use Rattle.text.specs.Reading.{toFeed, eventIn}
 use Rattle.session.specs.Listing.{text, answerTo}
-use Rattle.session.specs.Feeding.{Taken, heard, passingOver, notEnded, lineTaken, most, Feeding, resting, then, feeding, Feeds}
+use Rattle.session.specs.Feeding.{Taken, heard, passingOver, lineTaken, most, Feeding, resting, then, feeding, Feeds}
 use Rattle.session.specs.Walking.{Takes, shifted}
 use Rattle.session.specs.declared.Session.{Session}
 use Rattle.session.specs.declared.Fed.{Fed}

@@ -1,5 +1,5 @@
 -- Each public contract leaves one result, and one content of the lent buffer. Closed by the equalities that it gives.
-use mathlib.Core.Path.{_≡_, ap, sym, _∙_}
+use mathlib.Core.Path.{_≡_, sym, _∙_}
 use denote.Ref.{now}
 use Rattle.octets.specs.Contract.{Leaves}
 use Rattle.session.specs.declared.Fed.{Fed}

@@ -1,15 +1,12 @@
 -- Laws of what is printed: a line with room, the lines that lie in a buffer, and a unit's answer. Closed by induction on the lines.
 use Prim.Native.Nat.{ℕ, zero, suc, _+_, _-_, _*_, _/_, _%_, _<_, _≤_}
 use mathlib.Core.Path.{_≡_, refl, ap, sym, _∙_}
-use mathlib.Core.Bool.{Bool, true, false}
 use mathlib.Core.List.{List, [], _∷_, _++_, map, append-nil, append-assoc}
 use native.Mathlib.Nat.{add-zero}
 use native.Mathlib.Omega.{arith}
 use borrow.Author.Tests.{le-leb}
-use lib.Dec.{leb}
 use lib.ListN.{length, take, drop, getD, length-append, length-drop}
 use lib.Seq.{getD-drop, sets, sets-eq, length-sets, drop-drop, take-append-seam, drop-append-seam, length-take-le}
-use Rattle.octets.specs.Choice.{pick}
 use Rattle.octets.specs.Put.{Put}
 use Rattle.octets.proofs.Puts as Puts
 use Rattle.text.specs.Printing.{digitsOf, printed, fits, printedIn}
@@ -21,7 +18,7 @@ use Rattle.book.specs.declared.Unit.{Unit as Value}
 use Rattle.book.specs.declared.Turn.{Turn}
 use Rattle.book.specs.declared.Verdict.{Verdict}
 use Rattle.book.specs.declared.Verdict.the-variants.{Done, Refused}
-use Rattle.session.specs.Listing.{text, refusalLine, outcomeLines}
+use Rattle.session.specs.Listing.{text, refusalLine}
 use Rattle.session.specs.Walking.{lengthAt, linesIn, sizeOf, verdictLines, verdictSize, Handled}
 
 -- ---- one line

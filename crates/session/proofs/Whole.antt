@@ -1,27 +1,25 @@
 -- THE LISTING IN PARTS IS THE WHOLE: however the input is cut into reads, whatever room is lent and however many lines there are, what a run of the
 -- program writes is `listing` of its input. Closed by induction on the run; each step by what the output still to come is (`whole`).
-use Prim.Native.Nat.{ℕ, zero, suc, _+_, _-_, _*_, _<_, _≤_}
+use Prim.Native.Nat.{ℕ, zero, suc, _+_, _-_, _<_, _≤_}
 use mathlib.Core.Path.{_≡_, refl, ap, sym, subst, _∙_}
 use mathlib.Core.Bool.{Bool, true, false}
 use mathlib.Core.Option.{Option, none, some}
 use mathlib.Core.List.{List, [], _∷_, _++_, append-nil, append-assoc}
 use native.Mathlib.Numerals.{add-one}
-use native.Mathlib.Nat.{add-zero}
 use native.Mathlib.Omega.{arith}
-use borrow.Author.Tests.{le-ltb, lt-ltb, lt-leb, ltb-true, ltb-false}
-use lib.Dec.{T, ltb, leb, eqb}
+use borrow.Author.Tests.{le-ltb, lt-ltb, lt-leb, ltb-true}
+use lib.Dec.{T, ltb, eqb}
 use lib.ListN.{length, take, drop, length-append, length-drop}
-use lib.Seq.{drop-drop, drop-append-le, drop-length}
+use lib.Seq.{drop-drop, drop-length}
 use Rattle.octets.specs.Choice.{pick, both, either}
 use Rattle.text.specs.Reading.{leading, toFeed, eventIn}
 use Rattle.book.specs.declared.Unit.{Unit as Value}
-use Rattle.session.specs.Listing.{text, unended, eventsFrom, answerTo, listed, listing}
-use Rattle.session.specs.Feeding.{fresh, Taken, heard, passingOver, lineTaken, most, Feeding, resting, then, feeding, lastEvents, finishing}
+use Rattle.session.specs.Listing.{text, eventsFrom, answerTo, listed, listing}
+use Rattle.session.specs.Feeding.{fresh, Taken, lineTaken, most, Feeding, resting, then, feeding, lastEvents, finishing}
 use Rattle.session.specs.Runs.{Run, read, fed, finished, stopped}
-use Rattle.session.specs.declared.Phase.{Phase}
-use Rattle.session.specs.declared.Phase.the-variants.{First, Running, Stopped}
+use Rattle.session.specs.declared.Phase.the-variants.{Stopped}
 use Rattle.session.specs.declared.Session.{Session}
-use Rattle.session.proofs.FeedLaws.{How, ended, over, left, how, untaken, taken-within}
+use Rattle.session.proofs.FeedLaws.{How, ended, over, left, how}
 
 -- ---- what is still to come
 

@@ -2,12 +2,11 @@
 -- (proofs/Runs).
 use Prim.Native.Nat.{ℕ, zero, suc, _+_, _-_, _≤_}
 use mathlib.Core.Path.{_≡_}
-use mathlib.Core.Bool.{Bool, true, false}
-use mathlib.Core.Option.{Option, none, some}
+use mathlib.Core.Bool.{true, false}
+use mathlib.Core.Option.{Option, none}
 use mathlib.Core.List.{List, [], _∷_, _++_}
 use lib.Dec.{ltb}
 use lib.ListN.{length, take, drop}
-use lib.Seq.{sets}
 use Rattle.octets.specs.Choice.{pick, either}
 use Rattle.octets.specs.Put.{Put}
 use Rattle.text.specs.Reading.{toFeed, eventIn}

@@ -1,6 +1,6 @@
 -- THE LISTING, from the octets of its input to those of its output. 01, "Events, lines and the listing": "The listing program reads standard input
 -- as lower-case hexadecimal, one event a line, at most 4,096 digits, each line ended by a line feed."
-use Prim.Native.Nat.{ℕ, suc, _+_, _*_}
+use Prim.Native.Nat.{ℕ, _+_, _*_}
 use mathlib.Core.Option.{Option, none, some}
 use mathlib.Core.List.{List, [], _∷_, _++_, map}
 use lib.Dec.{eqb}

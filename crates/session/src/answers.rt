@@ -1,12 +1,11 @@
 // What a line of the input leaves and prints: the first line, each later one, and a line that is none.
 ghost use mathlib.Core.Path.{_≡_};
-ghost use mathlib.Core.List.{_∷_, []};
 ghost use mathlib.Core.Option.{none, some};
 ghost use Prim.Native.Nat.{_≤_, _<_, _+_};
 ghost use lib.ListN.{length};
 ghost use Rattle.octets.specs.Put.{Put};
 ghost use Rattle.book.specs.Step.{step};
-ghost use Rattle.session.specs.Listing.{noSetup, two, setupIn, begun, stateLine, goneOn, laterOutcome, answerTo, atEnd};
+ghost use Rattle.session.specs.Listing.{noSetup, two, setupIn, begun, goneOn, laterOutcome, answerTo, atEnd};
 ghost use Rattle.session.specs.Feeding.{heard, most};
 ghost use Rattle.session.specs.Walking.{Handled, Takes, stated, stoppedAt};
 use crate::Fed;

@@ -1,8 +1,6 @@
 -- `listing::keep_rest` is safe. Closed by the length of what was put.
 use mathlib.Core.Path.{sym}
 use lib.Seq.{length-take-le}
-use mathlib.Core.Path.{sym}
-use lib.Seq.{length-take-le}
 use borrow.Author.Needs.{needs}
 use Rattle.listing.proofs.keep_rest.Statement.{statement}
 use Rattle.listing.proofs.keep_rest.Tie as tie

@@ -1,5 +1,4 @@
 -- `session::fresh` meets its contract. Closed by what no setup leaves.
-use mathlib.Core.Path.{ap}
 use borrow.Author.Needs.{needs}
 use Rattle.session.proofs.fresh.Statement.{statement}
 use Rattle.session.proofs.fresh.Tie as tie

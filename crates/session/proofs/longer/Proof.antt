@@ -1,5 +1,4 @@
 -- `session::longer` meets its contract. Closed by the test.
-use mathlib.Core.Path.{refl}
 use borrow.Author.Needs.{needs}
 use Rattle.session.proofs.longer.Statement.{statement}
 use Rattle.session.proofs.longer.Tie as tie

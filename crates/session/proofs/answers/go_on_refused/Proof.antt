@@ -1,8 +1,5 @@
 -- `session::answers::go_on_refused` meets its contract. Closed by AnswerLaws: the refusal, then the state.
 use Rattle.session.proofs.AnswerLaws.{goes-refused}
-use mathlib.Core.Path.{refl}
-use Rattle.book.specs.Book.{refused}
-use Rattle.session.proofs.AnswerLaws.{goes-on}
 use borrow.Author.Needs.{needs}
 use Rattle.session.proofs.answers.go_on_refused.Statement.{statement}
 use Rattle.session.proofs.answers.go_on_refused.Tie as tie

@@ -1,10 +1,6 @@
 -- `session::walk::print_laid` meets its contract. The invariant: the lines that are left, printed now, give the whole (WalkLaws: `Walked`).
 use native.Mathlib.Omega.{arith}
-use mathlib.Core.Path.{refl}
 use Rattle.session.proofs.WalkLaws.{Walked, walk-start, walk-has, walk-within, walk-step, walk-end, line-as}
-use Rattle.session.proofs.WalkLaws.{Walked, walk-start, walk-has, walk-within, walk-room, walk-step, walk-end}
-use Prim.Native.Nat.{_≤_}
-use mathlib.Core.Path.{_≡_, refl}
 use borrow.Author.Needs.{needs}
 use Rattle.session.proofs.walk.print_laid.Statement.{statement}
 use Rattle.session.proofs.walk.print_laid.Tie as tie
