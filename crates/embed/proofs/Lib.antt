@@ -1,0 +1,3 @@
+pub mod ImageLaws
+pub mod CallLaws
+pub mod OneResult
