@@ -13,7 +13,7 @@ use Rattle.octets.specs.Choice.{pick}
 use Rattle.octets.proofs.Puts.{sets-append}
 use Rattle.book.specs.declared.Terms.{Terms}
 use Rattle.book.specs.declared.Unit.{Unit as Value}
-use Rattle.embed.specs.Image.{two, waitingIn, termsIn, unitOf, cut, waitingOctets, numberOctets, imageOf}
+use Rattle.embed.specs.Image.{two, waitingIn, termsIn, unitOf, cut, waitingOctets, restOctets, imageOf}
 
 -- ---- octets put over a whole block
 
@@ -43,16 +43,16 @@ pub waiting-long : (w : List ℕ) → length (waitingOctets w) ≡ 16
 unfolding waitingOctets
 waiting-long w = refl
 
-pub numbers-long : (u : Value) → length (numberOctets u) ≡ 16
-unfolding numberOctets
+pub numbers-long : (u : Value) → length (restOctets u) ≡ 16
+unfolding restOctets
 numbers-long u = refl
 
 -- the image that was written
 pub written : (u : Value) (l b d x y z r : List ℕ) → length l ≡ 618 → length (u .name) ≡ 32 → length (u .kept) ≡ 554 → b ≡ waitingOctets (u .waiting)
-    → d ≡ numberOctets u → x ≡ sets l 0 (u .name) → y ≡ sets x 32 b → z ≡ sets y 48 (u .kept) → r ≡ sets z 602 d → r ≡ imageOf u
+    → d ≡ restOctets u → x ≡ sets l 0 (u .name) → y ≡ sets x 32 b → z ≡ sets y 48 (u .kept) → r ≡ sets z 602 d → r ≡ imageOf u
 unfolding imageOf
 written u l b d x y z r e ea ec hb hd hx hy hz hr =
-    let p = put-parts l (u .name) (waitingOctets (u .waiting)) (u .kept) (numberOctets u) e ea (waiting-long (u .waiting)) ec (numbers-long u) in
+    let p = put-parts l (u .name) (waitingOctets (u .waiting)) (u .kept) (restOctets u) e ea (waiting-long (u .waiting)) ec (numbers-long u) in
     rw (hr, hz, hy, hx, hb, hd) p
 
 -- ---- the parts
@@ -118,6 +118,6 @@ pub numbers-are : (u : Value) {k a₀ a₁ a₂ a₃ a₄ a₅ a₆ a₇ a₈ a�
     → a₈ ≡ cut 255 (u .letters) → a₉ ≡ cut 255 (u .count) → k ≡ cut 65535 (u .octets) → a₁₀ ≡ k / 256
     → a₁₁ ≡ k % 256
     → u .state ∷ a₀ ∷ a₁ ∷ a₂ ∷ a₃ ∷ a₄ ∷ a₅ ∷ a₆ ∷ a₇ ∷ u .terms .class ∷ u .terms .priority ∷ u .terms .rer ∷ a₈ ∷ a₉ ∷ a₁₀ ∷ a₁₁ ∷ []
-    ≡ numberOctets u
-unfolding numberOctets
+    ≡ restOctets u
+unfolding restOctets
 numbers-are u h₀ h₁ h₂ h₃ h₄ h₅ h₆ h₇ h₈ h₉ h₁₀ h₁₁ h₁₂ = cc

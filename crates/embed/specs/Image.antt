@@ -49,12 +49,13 @@ waitingOctets w =
     ∷ (getD w 3 0 % 256) ∷ (getD w 4 0 / 256) ∷ (getD w 4 0 % 256) ∷ (getD w 5 0 / 256) ∷ (getD w 5 0 % 256) ∷ (getD w 6 0 / 256) ∷ (getD w 6 0 % 256)
     ∷ (getD w 7 0 / 256) ∷ (getD w 7 0 % 256) ∷ []
 
-unfoldable pub numberOctets : Value → List ℕ
-numberOctets u =
+-- the state and what stands behind it
+unfoldable pub restOctets : Value → List ℕ
+restOctets u =
     u .state ∷ (u .start / 256) ∷ (u .start % 256) ∷ (u .end / 256) ∷ (u .end % 256) ∷ (u .inactivity / 256) ∷ (u .inactivity % 256)
     ∷ (u .elapsed / 256) ∷ (u .elapsed % 256) ∷ u .terms .class ∷ u .terms .priority ∷ u .terms .rer ∷ cut 255 (u .letters) ∷ cut 255 (u .count)
     ∷ (cut 65535 (u .octets) / 256) ∷ (cut 65535 (u .octets) % 256) ∷ []
 
 -- the image of a unit
 unfoldable pub imageOf : Value → List ℕ
-imageOf u = u .name ++ (waitingOctets (u .waiting) ++ (u .kept ++ numberOctets u))
+imageOf u = u .name ++ (waitingOctets (u .waiting) ++ (u .kept ++ restOctets u))

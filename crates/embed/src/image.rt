@@ -2,7 +2,7 @@
 ghost use mathlib.Core.Path.{_≡_};
 ghost use Prim.Native.Nat.{_<_, _+_, _/_, _%_};
 ghost use lib.ListN.{length, take, drop};
-ghost use Rattle.embed.specs.Image.{two, waitingIn, termsIn, unitOf, cut, waitingOctets, numberOctets, imageOf};
+ghost use Rattle.embed.specs.Image.{two, waitingIn, termsIn, unitOf, cut, waitingOctets, restOctets, imageOf};
 use book::Terms;
 use book::Unit;
 
@@ -128,8 +128,9 @@ fn waiting_octets(w: [u16; 8]) -> [u8; 16]
     ]
 }
 
-fn number_octets(u: Unit) -> [u8; 16]
-    ensures { λ r. ⌜ r ≡ numberOctets u ⌝ }
+// The state and what stands behind it.
+fn rest_octets(u: Unit) -> [u8; 16]
+    ensures { λ r. ⌜ r ≡ restOctets u ⌝ }
 {
     let t = u.terms;
     let octets = cut(65535, u.octets);
@@ -162,9 +163,9 @@ pub(crate) fn put_unit(image: &mut [u8], u: Unit)
     let ids = u.waiting;
     let kept = u.kept;
     let waiting = waiting_octets(ids);
-    let numbers = number_octets(u);
+    let rest = rest_octets(u);
     octets::put(image, 0, &name);
     octets::put(image, 32, &waiting);
     octets::put(image, 48, &kept);
-    octets::put(image, 602, &numbers);
+    octets::put(image, 602, &rest);
 }

@@ -8,8 +8,8 @@ use Rattle.embed.proofs.image.put_unit.Tie as tie
 waiting-octets-requires : tie.Need-waiting-octets-requires
 waiting-octets-requires c κs = search needs
 
-number-octets-requires : tie.Need-number-octets-requires
-number-octets-requires c κs = search needs
+rest-octets-requires : tie.Need-rest-octets-requires
+rest-octets-requires c κs = search needs
 
 slice-aggregate-put : tie.Need-slice-aggregate-put
 slice-aggregate-put c = search needs
@@ -39,14 +39,14 @@ same-length : tie.Need-same-length
 same-length c = search needs
 
 returns : tie.Need-returns
-returns c = written (c .before .before .before .before .before .before .before .before .before .before .before .before .before .before .before .before .before .before .before .before .before .before .before .before .before .before .args .u) _ _ _ _ _ _ _ (c .before .before .before .before .before .before .before .before .before .before .before .before .before .before .before .before .before .before .before .before .before .before .before .before .before .before .pre) (search needs) (sym (slice-aggregate-put-3 (c .before .before .before .before .before .before .before .before))) (c .before .before .before .before .before .before .before .before .before .before .before .before .before .before .before .before .before .before .before .before .before .waiting-octets .ensures) (c .before .before .before .before .before .before .before .before .before .before .before .before .before .before .before .before .before .before .before .before .number-octets .ensures) (c .before .before .before .before .before .before .before .before .before .before .before .before .before .before .before .before .before .put .ensures) (c .before .before .before .before .before .before .before .before .before .before .before .before .put2 .ensures) (c .before .before .before .before .before .before .before .put3 .ensures) (c .before .before .put4 .ensures)
+returns c = written (c .before .before .before .before .before .before .before .before .before .before .before .before .before .before .before .before .before .before .before .before .before .before .before .before .before .before .args .u) _ _ _ _ _ _ _ (c .before .before .before .before .before .before .before .before .before .before .before .before .before .before .before .before .before .before .before .before .before .before .before .before .before .before .pre) (search needs) (sym (slice-aggregate-put-3 (c .before .before .before .before .before .before .before .before))) (c .before .before .before .before .before .before .before .before .before .before .before .before .before .before .before .before .before .before .before .before .before .waiting-octets .ensures) (c .before .before .before .before .before .before .before .before .before .before .before .before .before .before .before .before .before .before .before .before .rest-octets .ensures) (c .before .before .before .before .before .before .before .before .before .before .before .before .before .before .before .before .before .put .ensures) (c .before .before .before .before .before .before .before .before .before .before .before .before .put2 .ensures) (c .before .before .before .before .before .before .before .put3 .ensures) (c .before .before .put4 .ensures)
 
 pub put-unit-spec : {M : Type 1} → statement M
 put-unit-spec =
     tie.close
     (tie.spec
     waiting-octets-requires
-    number-octets-requires
+    rest-octets-requires
     slice-aggregate-put
     put-requires
     slice-aggregate-put-2

@@ -1,8 +1,8 @@
--- `embed::image::number_octets` meets its contract. Closed by ImageLaws: sixteen octets.
+-- `embed::image::rest_octets` meets its contract. Closed by ImageLaws: sixteen octets.
 use Rattle.embed.proofs.ImageLaws.{numbers-are, cut-low}
 use borrow.Author.Needs.{needs}
-use Rattle.embed.proofs.image.number_octets.Statement.{statement}
-use Rattle.embed.proofs.image.number_octets.Tie as tie
+use Rattle.embed.proofs.image.rest_octets.Statement.{statement}
+use Rattle.embed.proofs.image.rest_octets.Tie as tie
 
 cut-requires : tie.Need-cut-requires
 cut-requires c κs = search needs
@@ -52,8 +52,8 @@ low-requires-7 c κs = search needs
 returns : tie.Need-returns
 returns c = numbers-are (c .before .before .before .before .before .before .before .before .before .before .before .before .before .before .before .before .args .u) (c .before .before .before .before .before .before .before .before .before .before .before .before .before .high .ensures) (c .before .before .before .before .before .before .before .before .before .before .before .before .low .ensures) (c .before .before .before .before .before .before .before .before .before .before .before .high2 .ensures) (c .before .before .before .before .before .before .before .before .before .before .low2 .ensures) (c .before .before .before .before .before .before .before .before .before .high3 .ensures) (c .before .before .before .before .before .before .before .before .low3 .ensures) (c .before .before .before .before .before .before .before .high4 .ensures) (c .before .before .before .before .before .before .low4 .ensures) (cut-low _ _ _ (c .before .before .before .before .before .cut2 .ensures) (c .before .before .before .before .low5 .ensures)) (cut-low _ _ _ (c .before .before .before .cut3 .ensures) (c .before .before .low6 .ensures)) (c .before .before .before .before .before .before .before .before .before .before .before .before .before .before .cut .ensures) (c .before .high5 .ensures) (c .low7 .ensures)
 
-pub number-octets-spec : {M : Type 1} → statement M
-number-octets-spec =
+pub rest-octets-spec : {M : Type 1} → statement M
+rest-octets-spec =
     tie.close
     (tie.spec
     cut-requires
