@@ -11,13 +11,13 @@ use Rattle.embed.proofs.stelquorum_event.Statement.{statement}
 use Rattle.embed.proofs.stelquorum_event.Tie as tie
 
 number-requires : tie.Need-number-requires
-number-requires c κs = refusal-counts 6 refl
+number-requires c κs = refusal-counts _ refl
 
 returns : tie.Need-returns
 returns c = event-short _ _ _ (c .before .if1 .taken) refl (c .number .ensures)
 
 number-requires-2 : tie.Need-number-requires-2
-number-requires-2 c κs = refusal-counts 9 refl
+number-requires-2 c κs = refusal-counts _ refl
 
 returns-2 : tie.Need-returns-2
 returns-2 c = event-none _ _ _ (c .before .before .if1 .left) (c .before .if2 .taken) refl (c .number2 .ensures)

@@ -6,7 +6,7 @@ use Rattle.embed.proofs.stelquorum_setup.Statement.{statement}
 use Rattle.embed.proofs.stelquorum_setup.Tie as tie
 
 number-requires : tie.Need-number-requires
-number-requires c κs = refusal-counts 6 refl
+number-requires c κs = refusal-counts _ refl
 
 returns : tie.Need-returns
 returns c = setup-no-image _ _ _ _ _ (c .before .if1 .taken) refl (c .number .ensures)
