@@ -1,17 +1,14 @@
 -- Laws of the calls: the number of an answer, and each way out of setup and of an event.
 use Prim.Native.Nat.{ℕ, _+_, _*_, _<_, _≤_}
-use mathlib.Core.Path.{_≡_, refl, ap, sym, _∙_}
+use mathlib.Core.Path.{_≡_, refl, sym}
 use mathlib.Core.Bool.{Bool, true, false}
-use mathlib.Core.List.{List, [], _∷_}
+use mathlib.Core.List.{List}
 use native.Mathlib.Omega.{arith}
 use borrow.Author.Tests.{lt-ltb, le-ltb, eq-eqb, ne-eqb}
-use lib.Dec.{ltb, eqb}
-use lib.ListN.{length, take, drop, getD, length-drop}
-use lib.Seq.{sets, length-take-le}
+use lib.ListN.{length, getD}
 use Rattle.octets.specs.Choice.{pick}
 use Rattle.frame.specs.Reading.{octet}
-use Rattle.book.specs.Book.{Out, State, Outcome, refused, done}
-use Rattle.book.specs.Lines.{laidOut}
+use Rattle.book.specs.Book.{Outcome, refused, done}
 use Rattle.book.specs.Sound.{soundOf, withinLimits}
 use Rattle.book.specs.Step.{step, octetsOf, turnOf, Turned, setUp}
 use Rattle.book.specs.declared.Unit.{Unit as Value}
@@ -20,7 +17,7 @@ use Rattle.book.specs.declared.Verdict.{Verdict}
 use Rattle.book.specs.declared.Verdict.the-variants.{Done, Refused}
 use Rattle.room_laws.proofs.Room.{room}
 use Rattle.embed.specs.Image.{unitOf, imageOf}
-use Rattle.embed.specs.Answer.{numberOf, counted, outcomeOn, imageAfter, turnOn, Answers, SetsUp}
+use Rattle.embed.specs.Answer.{numberOf, counted, outcomeOn, imageAfter, Answers, SetsUp}
 
 -- ---- the number of an answer
 

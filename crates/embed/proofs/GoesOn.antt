@@ -3,26 +3,25 @@
 use Prim.Native.Nat.{ℕ, zero, suc, _+_, _-_, _≤_, _<_}
 use mathlib.Core.Path.{_≡_, refl, ap, sym, _∙_}
 use mathlib.Core.Bool.{Bool, true, false}
-use mathlib.Core.List.{List, [], _∷_, _++_}
+use mathlib.Core.List.{List, [], _∷_}
 use native.Mathlib.Omega.{arith}
 use borrow.Author.Tests.{eq-eqb, leb-true, eqb-true}
 use lib.Dec.{eqb, ltb, leb}
 use lib.ListN.{length, take, drop, getD, replicate, length-append, length-drop, length-replicate}
-use lib.Seq.{length-take-le, getD-take, getD-drop}
+use lib.Seq.{length-take-le, getD-drop}
 use Rattle.octets.specs.Choice.{pick, both}
 use Rattle.frame.specs.Reading.{octet}
-use Rattle.book.specs.Book.{Out, State, idle, single, multi, ending, assoc, Setup, Outcome, refused, done, idsOf}
+use Rattle.book.specs.Book.{State, idle, single, multi, ending, assoc, Setup, Outcome, refused, done, idsOf}
 use Rattle.book.specs.View.{readingIn, msgOctets}
 use Rattle.book.specs.Picture.{padded, pictured, picture, setupOf, noTerms}
 use Rattle.book.specs.Sound.{zeros, differ, withinLimits, setupSound, idsSound, keptNone, keptReads, keptGood, keptSound, stateSound, soundOf}
 use Rattle.book.specs.Step.{step, turnOf, setUp}
 use Rattle.book.specs.declared.Terms.{Terms}
 use Rattle.book.specs.declared.Unit.{Unit as Value}
-use Rattle.book.specs.declared.Turn.{Turn}
 use Rattle.sound_laws.proofs.Within.{both-left, both-right}
 use Rattle.sound_laws.proofs.Kept as Kept
 use Rattle.embed.specs.Image.{unitOf, imageOf, waitingIn}
-use Rattle.embed.specs.Answer.{outcomeOn, imageAfter, turnOn, Answers, SetsUp}
+use Rattle.embed.specs.Answer.{outcomeOn, imageAfter, Answers, SetsUp}
 use Rattle.embed.proofs.RoundTrip.{fitting-back}
 
 -- ---- the bounds of a sound unit

@@ -2,15 +2,13 @@
 -- the unit that they stand for.
 use Prim.Native.Nat.{ℕ, zero, suc, _+_, _*_, _/_, _%_, _<_, _≤_}
 use mathlib.Core.Path.{_≡_, refl, ap, sym, _∙_}
-use mathlib.Core.Bool.{Bool, true, false}
+use mathlib.Core.Bool.{true}
 use mathlib.Core.List.{List, [], _∷_, _++_}
 use native.Mathlib.Omega.{arith}
 use native.Mathlib.Nat.{div-add-mod}
 use lib.ListN.{length, take, drop, getD, length-drop, take-append-drop, List·getD-append}
 use lib.Seq.{drop-cons, drop-drop, getD-drop, take-at, drop-at, take-all}
 use Rattle.book.specs.Sound.{soundOf}
-use Rattle.book.specs.Ready.{Ready}
-use Rattle.book.specs.declared.Terms.{Terms}
 use Rattle.book.specs.declared.Unit.{Unit as Value}
 use Rattle.state.proofs.Sounds.{ready}
 use Rattle.embed.specs.Image.{two, waitingIn, termsIn, unitOf, cut, waitingOctets, restOctets, imageOf}
