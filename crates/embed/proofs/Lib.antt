@@ -1,0 +1,5 @@
+pub mod ImageLaws
+pub mod CallLaws
+pub mod RoundTrip
+pub mod GoesOn
+pub mod OneResult

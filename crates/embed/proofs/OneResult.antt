@@ -1,0 +1,21 @@
+-- Each public contract leaves one answer, one image, and one content of the lent buffer. Closed by the equalities that it gives.
+use mathlib.Core.Path.{sym, _∙_}
+use denote.Ref.{now}
+use Rattle.octets.specs.Contract.{Leaves}
+use Rattle.embed.proofs.stelquorum_setup.Reads as setup
+use Rattle.embed.proofs.stelquorum_event.Reads as event
+
+pub one-setup : Leaves setup.Post (λ κs r e. r)
+one-setup κs a x y e f p q = p .number ∙ sym (q .number)
+
+pub one-setup-image : Leaves setup.Post (λ κs r e. now (e .0))
+one-setup-image κs a x y e f p q = p .image ∙ sym (q .image)
+
+pub one-event : Leaves event.Post (λ κs r e. r)
+one-event κs a x y e f p q = p .number ∙ sym (q .number)
+
+pub one-event-image : Leaves event.Post (λ κs r e. now (e .0))
+one-event-image κs a x y e f p q = p .image ∙ sym (q .image)
+
+pub one-event-buffer : Leaves event.Post (λ κs r e. now (e .1 .1 .0))
+one-event-buffer κs a x y e f p q = p .buffer ∙ sym (q .buffer)
