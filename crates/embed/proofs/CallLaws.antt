@@ -99,6 +99,11 @@ module _ (image ev out : List ℕ) where
         buffer = g .buffer;
       }
 
+-- an image of 617 octets is none, whatever it holds
+pub short-image : (room : ℕ) (image ev : List ℕ) → 1024 ≤ room → length image ≡ 617 → outcomeOn room image ev ≡ refused 9
+unfolding outcomeOn
+short-image room image ev h e = rw (le-ltb room 1024 h, e)
+
 -- ---- setup
 
 pub setup-counts : (a b c : ℕ) (name : List ℕ) (t : Turn) → t ≡ setUp a b c name → counted (t .verdict) < 4294967040
