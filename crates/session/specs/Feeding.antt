@@ -1,5 +1,5 @@
 -- The listing in parts: what a session makes of the input that it is handed, however that is cut. That the parts give the whole is a theorem
--- (proofs/Runs).
+-- (proofs/Whole).
 use Prim.Native.Nat.{ℕ, zero, suc, _+_, _-_, _≤_}
 use mathlib.Core.Path.{_≡_}
 use mathlib.Core.Bool.{true, false}

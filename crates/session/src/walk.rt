@@ -4,7 +4,6 @@ ghost use mathlib.Core.List.{_∷_, []};
 ghost use Prim.Native.Nat.{_≤_, _<_, _+_, _*_};
 ghost use lib.ListN.{length, drop};
 ghost use Rattle.octets.specs.Put.{Put};
-ghost use Rattle.text.specs.Printing.{printed};
 ghost use Rattle.session.specs.Listing.{text};
 ghost use Rattle.session.specs.Walking.{lengthAt, linesIn, sizeOf, verdictLines, verdictSize};
 use book::Verdict;
