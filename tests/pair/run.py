@@ -1,4 +1,4 @@
-"""Demand 3 on the running program: two listing programs joined by a link that is written here from 01's link rules alone.
+"""Demand 3 on the running program: two listing programs joined by a link that is written here from 01's link rules (no code of the model).
 
 run.py LISTING RUNS STEPS makes RUNS random runs of STEPS steps each (fixed seeds): users' events and ticks at both ends, lines delivered in any
 order between the two directions, provider aborts, extension fields added to frames on their way. After every step the promises (a) to (e) of

@@ -1,6 +1,6 @@
 -- A RUN OF THE LISTING PROGRAM: what it does with `session` in some order, until its input ends. `held` is what was read and is not yet taken, `input`
 -- what is still to be read, `output` what is still to be written. Whatever the order, the blocks read and the room lent, the output is `listing` of
--- the input (proofs/Whole).
+-- the input (proofs/Whole). That the program's own loop (listing, src/main.rt) makes such a run is read and tested, not proved.
 use Prim.Native.Nat.{ℕ, _≤_}
 use mathlib.Core.Path.{_≡_}
 use mathlib.Core.List.{List, [], _++_}
