@@ -1,13 +1,33 @@
-//! 01's session ("A session and its edges") through the static library; prints what the listing program prints.
+//! 01's session ("A session and its edges") through the static library; prints what the listing program prints. The load sheet's frame is written by
+//! the frame's writer; of each confirmation the frame's reader says which message it names, on standard error.
 
 #[allow(dead_code)]
 #[path = "stelquorum.rs"]
 mod stelquorum;
 
-use stelquorum::{Refused, Unit, BUFFER};
+use stelquorum::{read, write, Message, Refused, Unit, BUFFER};
 
 fn print(octets: &[u8]) {
     println!("{}", octets.iter().map(|x| format!("{x:02x}")).collect::<String>());
+}
+
+/// Of a confirmation, line 22: which message was answered, and how it went.
+fn tell(line: &[u8]) {
+    if let [0x22, how, frame @ ..] = line {
+        if let Ok((Message { reference: Some(id), .. }, _)) = read(frame) {
+            eprintln!("message {id}: {}", if *how == 0 { "delivered" } else { "not known to be delivered" });
+        }
+    }
+}
+
+/// A confirmed transfer of a text: its kind and terms, and the frame straight after them.
+fn transfer(identifier: u16, text: &[u8]) -> Result<Vec<u8>, Refused> {
+    let mut event = vec![0; 4 + BUFFER];
+    event[..4].copy_from_slice(&[2, 2, 3, 0]);
+    let sheet = Message { maintained: true, confirmation: 1, identifier: Some(identifier), data: Some(text), ..Message::default() };
+    let octets = write(&sheet, &mut event[4..])?;
+    event.truncate(4 + octets);
+    Ok(event)
 }
 
 fn main() {
@@ -16,8 +36,9 @@ fn main() {
         Err(Refused(number)) => return print(&[0xff, number]),
     };
     print(&[0xf0, unit.state()]);
+    let sheet = transfer(7, b"OK").expect("a text of two octets");
     let events: [&[u8]; 5] = [
-        b"\x02\x02\x03\x00\x25\x01\x00\x07\x00\x02OK",
+        &sheet,
         b"\x11\x00",
         b"\x12\x19\x02\x00\x07\x02A9",
         b"\x03",
@@ -26,7 +47,10 @@ fn main() {
     for event in events {
         let mut buffer = [0; BUFFER];
         match unit.event(event, &mut buffer) {
-            Ok(lines) => lines.for_each(print),
+            Ok(lines) => lines.for_each(|line| {
+                print(line);
+                tell(line);
+            }),
             Err(Refused(number)) => print(&[0xff, number]),
         }
         print(&[0xf0, unit.state()]);

@@ -1,8 +1,8 @@
-/* The dialogue unit for C, over target/staticlib/libembed.a (`rt staticlib embed`, x86-64). Every rule is that of 01.
+/* The dialogue unit, and the message frame, for C, over target/staticlib/libembed.a (`rt staticlib embed`, x86-64). Every rule is that of 01.
  *
  * The caller holds the unit as an image of 618 octets. Setup writes it, each event reads and writes it; it may be copied, stored and moved, since it
  * holds no pointer. No call keeps a pointer, allocates, or fails in any other way than by the number that it answers.
- * No pointer may be null, also where its length is 0; image, event and buffer may not overlap. */
+ * No pointer may be null, also where its length is 0; what a call writes (image, block, buffer) may overlap nothing else that it is lent. */
 #ifndef STELQUORUM_H
 #define STELQUORUM_H
 
@@ -16,7 +16,9 @@ extern "C" {
 enum {
     STELQUORUM_IMAGE = 618,   /* octets of an image */
     STELQUORUM_BUFFER = 1024, /* octets that the lent buffer has at least; no event's lines take more */
-    STELQUORUM_NAME = 32      /* the longest name */
+    STELQUORUM_NAME = 32,     /* the longest name */
+    STELQUORUM_BLOCK = 26,    /* octets of what the frame's reader answers */
+    STELQUORUM_FRAME = 554    /* the longest frame that is written; one that is read may have 1,024 */
 };
 
 /* Places of an image; numbers are big-endian. */
@@ -35,6 +37,40 @@ enum {
     STELQUORUM_AT_LETTERS = 614,
     STELQUORUM_AT_COUNT = 615,
     STELQUORUM_AT_OCTETS = 616
+};
+
+/* Octet 0 of a frame: which fields are present, and whether it is maintained (multi-shot). */
+enum {
+    STELQUORUM_HAS_EXTENSIONS = 0x80, /* not for the writer */
+    STELQUORUM_HAS_TYPE = 0x40,
+    STELQUORUM_HAS_IDENTIFIER = 0x20,
+    STELQUORUM_HAS_REFERENCE = 0x10,
+    STELQUORUM_HAS_SENDER = 0x08,
+    STELQUORUM_HAS_DATA = 0x04,
+    STELQUORUM_MAINTAINED = 0x01
+};
+
+/* Octet 1 of a frame, confirmation. */
+enum {
+    STELQUORUM_UNCONFIRMED_REQ = 0,
+    STELQUORUM_CONFIRMED_REQ = 1,
+    STELQUORUM_CONFIRMED_OK = 2,
+    STELQUORUM_CONFIRMED_NOT_OK = 3,
+    STELQUORUM_CONFIRMED_UNKNOWN = 4
+};
+
+/* Places of a block, which the frame's reader writes. Each field has its place in the frame and its length, 2 octets each, big-endian; place 0: the
+ * field is absent. */
+enum {
+    STELQUORUM_IN_BLOCK_MAINTAINED = 0, /* 0 or 1 */
+    STELQUORUM_IN_BLOCK_CONFIRMATION = 1,
+    STELQUORUM_IN_BLOCK_TYPE = 2,
+    STELQUORUM_IN_BLOCK_IDENTIFIER = 6,
+    STELQUORUM_IN_BLOCK_REFERENCE = 10,
+    STELQUORUM_IN_BLOCK_SENDER = 14,
+    STELQUORUM_IN_BLOCK_DATA = 18,
+    STELQUORUM_IN_BLOCK_END = 22,       /* the place after the fields, 2 octets */
+    STELQUORUM_IN_BLOCK_EXTENSIONS = 24 /* how many extension fields follow, 2 octets */
 };
 
 /* States. */
@@ -101,14 +137,14 @@ enum {
     STELQUORUM_REASON_FRAME_LEFT_OVER = 16
 };
 
-/* Refusals. */
+/* Refusals. The frame's reader and writer refuse with 6, or with a frame's fault: the numbers 11 to 16 under 'Reasons'. */
 enum {
     STELQUORUM_REFUSED_STATE = 1,
     STELQUORUM_REFUSED_FRAME = 2,
     STELQUORUM_REFUSED_TERMS = 3,
     STELQUORUM_REFUSED_ALREADY_WAITING = 4,
     STELQUORUM_REFUSED_EIGHT_WAITING = 5,
-    STELQUORUM_REFUSED_BUFFER = 6, /* also: the block lent to setup isn't one of 618 octets */
+    STELQUORUM_REFUSED_BUFFER = 6, /* also: the block lent to setup isn't one of 618 octets, or that lent to the reader has fewer than 26 */
     STELQUORUM_REFUSED_SETUP = 7,
     STELQUORUM_REFUSED_EVENT = 8,
     STELQUORUM_REFUSED_UNIT = 9 /* the image isn't one of 618 octets, or its unit isn't sound */
@@ -130,6 +166,19 @@ uint32_t stelquorum_setup(uint8_t *image, size_t image_length, uint16_t start, u
 
 /* One event: the image becomes that of the unit after it, and the buffer receives its lines; octets after them stay. A refusal changes neither. */
 uint32_t stelquorum_event(uint8_t *image, size_t image_length, const uint8_t *event, size_t event_length, uint8_t *buffer, size_t buffer_length);
+
+/* Two octets of a block or an image as a number. */
+static inline size_t stelquorum_number(const uint8_t *octets) { return 256 * (size_t)octets[0] + octets[1]; }
+
+/* Reads a frame: where its fields stand, at the front of the block, which has 26 octets or more. Answers 0, or a refusal, which changes nothing. The
+ * frame of an event or a line stands after its kind and fixed part. */
+uint32_t stelquorum_read(const uint8_t *frame, size_t frame_length, uint8_t *block, size_t block_length);
+
+/* Writes an edition 1 frame at the front of the buffer, which has 1,024 octets or more; octets after it stay. Answers how many octets it has, or a
+ * refusal, which changes nothing: 6, then 13 (bit 7 or bit 1 of the flags set, confirmation above 4), 15, 14. The flags are octet 0 of the frame; a
+ * value whose field is not present is not looked at. */
+uint32_t stelquorum_write(uint8_t flags, uint8_t confirmation, uint8_t type, uint16_t identifier, uint16_t reference, const uint8_t *sender,
+                          size_t sender_length, const uint8_t *data, size_t data_length, uint8_t *buffer, size_t buffer_length);
 
 #ifdef __cplusplus
 }

@@ -1,11 +1,16 @@
-// The unit for programs in C and Rust: setup and one event, over numbers and octets alone. The caller holds the unit as an image of 618 octets.
+// The unit for programs in C and Rust: setup, one event, and the frame's reader and writer, over numbers and octets alone. The caller holds the unit
+// as an image of 618 octets.
 ghost use mathlib.Core.Path.{_≡_};
 ghost use Prim.Native.Nat.{_<_};
 ghost use lib.ListN.{length};
+ghost use Rattle.frame.specs.Writing.{messageOf};
 ghost use Rattle.embed.specs.Answer.{numberOf, counted, imageAfter, Answers, SetsUp};
+ghost use Rattle.embed.specs.Fields.{partsIn, Reads, Writes};
 use book::Unit;
 use book::Verdict;
+use frame::Reading;
 
+mod fields;
 mod image;
 
 // An answer as one number.
@@ -71,4 +76,46 @@ pub extern "C" fn stelquorum_event(image: &mut [u8], event: &[u8], out: &mut [u8
     let verdict = turn.verdict;
     settle(image, next, verdict);
     number(verdict)
+}
+
+// Reads a frame: where its fields stand, in the lent block, or its fault.
+#[no_mangle]
+pub extern "C" fn stelquorum_read(frame: &[u8], block: &mut [u8]) -> u32
+    ensures { λ r. ⌜ Reads (now (frame .entry)) (now (block .entry)) r (now (block .exit)) ⌝ }
+{
+    if block.len() < 26 {
+        return number(Verdict::Refused(6));
+    }
+    match frame::read(frame) {
+        Reading::Faulty(f) => number(Verdict::Refused(frame::fault_number(f))),
+        Reading::Whole { header, extensions } => {
+            fields::put_block(block, header, extensions);
+            0
+        }
+    }
+}
+
+// Writes an edition 1 frame at the front of `buffer`. The flags are octet 0 of the frame: which fields are present, and multiShot.
+#[no_mangle]
+pub extern "C" fn stelquorum_write(
+    flags: u8,
+    confirmation: u8,
+    message_type: u8,
+    identifier: u16,
+    reference: u16,
+    sender: &[u8],
+    data: &[u8],
+    buffer: &mut [u8],
+) -> u32
+    ensures { λ r. ⌜ Writes flags (messageOf (partsIn flags confirmation «message_type» identifier reference) (now (sender .entry)) (now («data» .entry))) (now (buffer .entry)) r (now (buffer .exit)) ⌝ }
+{
+    if buffer.len() < 1024 {
+        return number(Verdict::Refused(6));
+    }
+    if fields::has_strays(flags) {
+        return number(Verdict::Refused(13));
+    }
+    let parts = fields::parts_in(flags, confirmation, message_type, identifier, reference);
+    let written = frame::write(parts, sender, data, buffer);
+    number(fields::verdict_of(written))
 }

@@ -1,6 +1,7 @@
 //! Differential test: random events through the proved unit (its static library, the unit as an image of 618 octets) and through the independent
 //! implementation. After each event everything is compared: the answer, the unit, and the lent buffer to its last octet, refusals included.
 //! It counts what was met and fails if a state, kind of line, refusal, reason or fault was not.
+use drawn::{frame, Draw};
 use reference::unit::{handle, is_sound, setup, Unit};
 
 extern "C" {
@@ -9,30 +10,6 @@ extern "C" {
 }
 
 const IMAGE: usize = 618;
-
-/// Numbers drawn from a seed (xorshift): the same each time.
-struct Draw(u64);
-
-impl Draw {
-    fn next(&mut self) -> u64 {
-        self.0 ^= self.0 << 13;
-        self.0 ^= self.0 >> 7;
-        self.0 ^= self.0 << 17;
-        self.0
-    }
-    fn under(&mut self, n: usize) -> usize {
-        (self.next() >> 11) as usize % n
-    }
-    fn chance(&mut self, percent: usize) -> bool {
-        self.under(100) < percent
-    }
-    fn of<T: Copy>(&mut self, from: &[T]) -> T {
-        from[self.under(from.len())]
-    }
-    fn octets(&mut self, n: usize) -> Vec<u8> {
-        (0..n).map(|_| self.next() as u8).collect()
-    }
-}
 
 /// The image of a unit, as docs say it: name, waiting, kept, state, limits, elapsed, terms, letters, count, octets.
 fn image_of(u: &Unit) -> Vec<u8> {
@@ -64,55 +41,6 @@ fn unit_of(s: &[u8]) -> Unit {
     (u.class, u.priority, u.rer) = (s[611], s[612], s[613]);
     (u.letters, u.count, u.octets) = (s[614] as usize, s[615] as usize, two(616) as usize);
     u
-}
-
-fn frame(d: &mut Draw, maintained: bool, confirmation: u8, ids: &[u16]) -> Vec<u8> {
-    let (mut bits, mut f) = (maintained as u8, Vec::new());
-    if d.chance(25) {
-        bits |= 0x40;
-        f.push(d.of(&[0, 5, 255]));
-    }
-    if d.chance(if confirmation == 1 { 98 } else { 20 }) {
-        bits |= 0x20;
-        f.extend(d.of(ids).to_be_bytes());
-    }
-    if d.chance(if confirmation > 1 { 98 } else { 20 }) {
-        bits |= 0x10;
-        f.extend(d.of(ids).to_be_bytes());
-    }
-    if d.chance(if confirmation > 1 { 98 } else { 20 }) {
-        let n = if d.chance(97) { d.of(&[1, 2, 32]) } else { d.of(&[0, 33]) };
-        bits |= 0x08;
-        f.push(n as u8);
-        f.extend(d.octets(n));
-    }
-    if d.chance(40) {
-        let n = if d.chance(97) { d.of(&[0usize, 1, 2, 40, 512]) } else { 513 };
-        bits |= 0x04;
-        f.extend((n as u16).to_be_bytes());
-        f.extend(d.octets(n));
-    }
-    if d.chance(15) {
-        bits |= 0x80;
-        for _ in 0..d.of(&[0, 1, 1, 2, 4]) {
-            let n = d.of(&[0usize, 1, 2, 200]);
-            f.push(if d.chance(97) { d.of(&[1, 2, 255]) } else { 0 });
-            f.push(n as u8);
-            f.extend(d.octets(n));
-        }
-    }
-    if d.chance(1) {
-        bits |= 0x02;
-    }
-    let mut s = vec![bits, if d.chance(99) { confirmation } else { d.of(&[5, 255]) }];
-    s.extend(f);
-    match d.under(100) {
-        0 => s.truncate(d.under(s.len() + 1)),
-        1 => s.extend([0, 1][..d.under(2) + 1].iter()),
-        2 => s.resize(1025, 0),
-        _ => (),
-    }
-    s
 }
 
 /// An event that the unit's state is likely to take; now and then any. In a busy session many confirmed transfers wait.
@@ -277,7 +205,7 @@ fn main() {
         assert!((a, b) == (0xffff_ff06, 0xffff_ff09) && image == vec![7u8; n] && out == vec![9u8; 1024], "an image of {n} octets");
     }
     println!("{} events; states {:?}; refusals 1 to 9 {:?}; setups taken and refused {:?}", met.events, met.states, &met.refusals[1..], met.setups);
-    println!("lines {:02x?}", met.lines);
+    println!("lines {}", met.lines.iter().map(|(kind, n)| format!("{kind:02x}: {n}")).collect::<Vec<_>>().join(", "));
     println!("reasons {:?}; unsound images {}; buffers under 1,024 octets {}", met.reasons, met.unsound, met.short);
     let mut missing = Vec::new();
     missing.extend((1..10).filter(|&n| met.refusals[n] == 0).map(|n| format!("refusal {n}")));
