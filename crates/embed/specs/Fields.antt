@@ -1,13 +1,13 @@
 -- A FRAME FOR PROGRAMS IN C OR RUST: what the reader answers as a block of 26 octets, and what the writer is given as numbers.
 -- The block: multiShot 0, confirmation 1; type 2, identifier 6, reference 10, sender 14, user data 18, of each the place in the frame and the length
 -- (2 octets each); the place after the fields 22, how many extension fields follow 24 (2 each). Numbers are big-endian.
-use Prim.Native.Nat.{ℕ, _/_, _%_}
+use Prim.Native.Nat.{ℕ, _+_, _/_, _%_}
 use mathlib.Core.Path.{_≡_}
 use mathlib.Core.List.{List, [], _∷_, _++_}
 use mathlib.Core.Option.{Option, some}
 use lib.ListN.{length}
 use lib.Seq.{sets}
-use lib.Dec.{ltb}
+use lib.Dec.{ltb, eqb}
 use Rattle.octets.specs.Choice.{pick, either}
 use Rattle.frame.specs.Message.{Message}
 use Rattle.frame.specs.Encoding.{weight, encode}
@@ -29,12 +29,12 @@ use Rattle.frame.specs.declared.Written.{Written}
 use Rattle.frame.specs.declared.Written.the-variants.{Octets, Refused as Nothing}
 use Rattle.book.specs.declared.Verdict.{Verdict}
 use Rattle.book.specs.declared.Verdict.the-variants.{Done, Refused}
-use Rattle.embed.specs.Image.{cut}
+use Rattle.embed.specs.Image.{cut, two}
 use Rattle.embed.specs.Answer.{numberOf}
 
 -- ---- reading
 
--- A place or a length. None that the reader gives is above 1,024 (proofs/FieldsFit), so none is cut.
+-- A place or a length. None that the reader gives is above 1,024, so none is cut (proofs/BlockBack).
 abbrev pub pair : ℕ → List ℕ
 pair n = (cut 65535 n / 256) ∷ (cut 65535 n % 256) ∷ []
 
@@ -52,6 +52,10 @@ blockOf h n =
     ++ (fieldOctets (h .sender)
     ++ (fieldOctets (h .«user_data»)
     ++ (pair (h .end) ++ pair n))))))
+
+-- the field that a block shows from the place i on
+unfoldable pub fieldIn : (block : List ℕ) (i : ℕ) → Field
+fieldIn block i = pick (eqb (two block i) 0) Absent (At (two block i) (two block (i + 2)))
 
 -- "A reader gives either the whole message or the fault": the block, or the fault's number and nothing written
 unfoldable pub readVerdict : Reading → Verdict

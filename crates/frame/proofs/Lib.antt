@@ -3,6 +3,7 @@ pub mod ValueLaws
 pub mod WriterLaws
 pub mod BareLaws
 pub mod Inversion
+pub mod Places
 pub mod StripLaws
 pub mod RoundTrip
 pub mod Laws
