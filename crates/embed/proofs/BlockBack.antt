@@ -4,7 +4,6 @@ use Prim.Native.Nat.{ℕ, zero, suc, _+_, _*_, _/_, _%_, _≤_, _<_}
 use mathlib.Core.Path.{_≡_, refl, ap, sym, _∙_}
 use mathlib.Core.List.{List, [], _∷_, _++_}
 use native.Mathlib.Omega.{arith}
-use native.Mathlib.Nat.{div-add-mod}
 use borrow.Author.Tests.{ne-eqb}
 use lib.Dec.{eqb}
 use lib.ListN.{length, drop, getD}
@@ -18,9 +17,8 @@ use Rattle.frame.specs.declared.Header.{Header}
 use Rattle.frame.specs.declared.Reading.the-variants.{Whole}
 use Rattle.frame.proofs.Inversion.{known}
 use Rattle.frame.proofs.Places.{Stands, absent, there, placed, brief}
-use Rattle.embed.specs.Image.{cut, two}
+use Rattle.embed.specs.Image.{two}
 use Rattle.embed.specs.Fields.{pair, fieldOctets, blockOf, fieldIn}
-use Rattle.embed.proofs.ImageLaws.{cut-within}
 use Rattle.embed.proofs.FieldsLaws.{field-long}
 
 -- ---- behind other octets
@@ -45,8 +43,8 @@ field-behind a b k i e =
 
 -- ---- at the front
 
-pair-back : (n : ℕ) → n ≤ 65535 → 256 * (cut 65535 n / 256) + cut 65535 n % 256 ≡ n
-pair-back n h = div-add-mod (cut 65535 n) 256 ∙ sym (cut-within 65535 n h)
+pair-back : (n : ℕ) → n ≤ 65535 → 256 * (n / 256 % 256) + n % 256 ≡ n
+pair-back n h = omega arith
 
 field-front : {s : List ℕ} {f : Field} (b : List ℕ) → length s ≤ 1024 → Stands s f → fieldIn (fieldOctets f ++ b) 0 ≡ f
 unfolding fieldIn fieldOctets

@@ -34,15 +34,10 @@ use Rattle.frame.specs.declared.Written.{Written}
 use Rattle.frame.specs.declared.Written.the-variants.{Octets, Refused as Nothing}
 use Rattle.book.specs.declared.Verdict.{Verdict}
 use Rattle.book.specs.declared.Verdict.the-variants.{Done, Refused}
-use Rattle.embed.specs.Image.{cut}
 use Rattle.embed.specs.Answer.{numberOf, counted}
 use Rattle.embed.specs.Fields.{pair, fieldOctets, blockOf, readVerdict, blockAfter, Reads, partsIn, writeRefusal, writeVerdict, Writes}
 
 -- ---- the block
-
-pub pairs-are : (a b : ℕ) {x y p q r s : ℕ} → x ≡ cut 65535 a → y ≡ cut 65535 b → p ≡ x / 256 → q ≡ x % 256 → r ≡ y / 256 → s ≡ y % 256
-    → p ∷ q ∷ r ∷ s ∷ [] ≡ pair a ++ pair b
-pairs-are a b h₀ h₁ h₂ h₃ h₄ h₅ = cc
 
 pub field-absent : {f : Field} → f ≡ Absent → 0 ∷ 0 ∷ 0 ∷ 0 ∷ [] ≡ fieldOctets f
 unfolding fieldOctets

@@ -29,14 +29,14 @@ use Rattle.frame.specs.declared.Written.{Written}
 use Rattle.frame.specs.declared.Written.the-variants.{Octets, Refused as Nothing}
 use Rattle.book.specs.declared.Verdict.{Verdict}
 use Rattle.book.specs.declared.Verdict.the-variants.{Done, Refused}
-use Rattle.embed.specs.Image.{cut, two}
+use Rattle.embed.specs.Image.{two}
 use Rattle.embed.specs.Answer.{numberOf}
 
 -- ---- reading
 
--- A place or a length. None that the reader gives is above 1,024, so none is cut (proofs/BlockBack).
+-- A place or a length, of which two octets have room: none that the reader gives is above 1,024 (proofs/BlockBack).
 abbrev pub pair : ℕ → List ℕ
-pair n = (cut 65535 n / 256) ∷ (cut 65535 n % 256) ∷ []
+pair n = (n / 256 % 256) ∷ (n % 256) ∷ []
 
 -- An absent field has place 0, where no field stands.
 unfoldable pub fieldOctets : Field → List ℕ

@@ -8,7 +8,6 @@ ghost use Rattle.frame.specs.Encoding.{weight};
 ghost use Rattle.frame.specs.declared.OneOctet.the-variants as OneOctet;
 ghost use Rattle.frame.specs.declared.TwoOctets.the-variants as TwoOctets;
 ghost use Rattle.embed.specs.Fields.{pair, fieldOctets, blockOf, readVerdict, partsIn, writeVerdict};
-use crate::image;
 use book::Verdict;
 use frame::Field;
 use frame::Header;
@@ -27,9 +26,12 @@ fn bit_of(b: bool) -> u8
 fn pairs(a: usize, b: usize) -> [u8; 4]
     ensures { λ r. ⌜ r ≡ pair a ++ pair b ⌝ }
 {
-    let x = image::cut(65535, a);
-    let y = image::cut(65535, b);
-    [image::high(x), image::low(x), image::high(y), image::low(y)]
+    [
+        (a / 256 % 256) as u8,
+        (a % 256) as u8,
+        (b / 256 % 256) as u8,
+        (b % 256) as u8,
+    ]
 }
 
 // A field's place and length.

@@ -84,7 +84,7 @@ pub(crate) fn unit_in(s: &[u8]) -> Unit
 }
 
 // A number cut to the largest that an image has room for.
-pub(crate) fn cut(most: u16, n: usize) -> u16
+fn cut(most: u16, n: usize) -> u16
     ensures { λ r. ⌜ r ≡ cut most n ⌝ }
 {
     if (most as usize) < n {
@@ -93,13 +93,13 @@ pub(crate) fn cut(most: u16, n: usize) -> u16
     n as u16
 }
 
-pub(crate) fn high(x: u16) -> u8
+fn high(x: u16) -> u8
     ensures { λ r. ⌜ r ≡ x / 256 ⌝ }
 {
     (x / 256) as u8
 }
 
-pub(crate) fn low(x: u16) -> u8
+fn low(x: u16) -> u8
     ensures { λ r. ⌜ r ≡ x % 256 ⌝ }
 {
     (x % 256) as u8
