@@ -31,7 +31,7 @@ use Rattle.book.specs.Sound.{soundOf, withinLimits}
 use Rattle.book.specs.Step.{does, orNothing, step, Turned, turnOf, setUp, blank}
 use Rattle.book.specs.Ready.{Ready}
 use Rattle.unit.specs.Moves.{made}
-use Rattle.unit.specs.Saying.{columnOf}
+use Rattle.unit.specs.Saying.{columnOf, Cleared, Vetted}
 use Rattle.unit.specs.UserData.{userDataOf}
 use Rattle.unit.proofs.Moved.{not-taken, made-is, padded-none}
 use Rattle.unit.proofs.Gave.{turned-as}
@@ -164,6 +164,28 @@ module _ (room : ℕ) (u : Value) (ev : List ℕ) where
       step room u ev ≡ does (setupOf u) e (drop (frameFrom e) ev) (stateOf u)
   unfolding step
   step-does h q z g = rw (le-ltb room 1024 h, sym q ∙ z, g)
+
+-- the first three tests: which number turns an event away, and what is known where none does
+module _ (room : ℕ) (u : Value) (e : Event) where
+  pub vetted-small : room < 1024 → Vetted room u e 6
+  vetted-small h = record { clear = λ z. absurd (omega arith); refuses = λ z ev q. step-small room u ev h }
+
+  pub vetted-unsound : 1024 ≤ room → {b : Bool} → b ≡ soundOf u → b ≡ false → Vetted room u e 9
+  vetted-unsound h q z = record { clear = λ y. absurd (omega arith); refuses = λ y ev x. step-unsound room u ev h q z }
+
+  pub vetted-no : 1024 ≤ room → {b : Bool} → b ≡ soundOf u → b ≡ true → Ready u → {c : ℕ} {t : Bool} → c ≡ columnOf e → t ≡ takes (u .state) c → t ≡ false
+      → Vetted room u e 1
+  vetted-no h q z k ec et f = record {
+    clear = λ y. absurd (omega arith);
+    refuses = λ y ev x. step-does room u ev h q z x ∙ acts-no k e (drop (frameFrom e) ev) ec et f;
+  }
+
+  pub vetted-yes : 1024 ≤ room → {b : Bool} → b ≡ soundOf u → b ≡ true → Ready u → {c : ℕ} {t : Bool} → c ≡ columnOf e → t ≡ takes (u .state) c → t ≡ true
+      → Vetted room u e 0
+  vetted-yes h q z k ec et f = record {
+    clear = λ y. record { ready = k; taken = acts-yes u e ec et f; space = h; steps = λ ev x. step-does room u ev h q z x };
+    refuses = λ y. absurd (omega arith);
+  }
 
 -- ---- setup
 

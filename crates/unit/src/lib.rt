@@ -12,7 +12,7 @@ ghost use Rattle.book.specs.Step.{does, step, turnOf, Turned, setUp};
 ghost use Rattle.book.specs.Ready.{Ready};
 ghost use Rattle.book.specs.Picture.{padded};
 ghost use Rattle.unit.specs.Moves.{made};
-ghost use Rattle.unit.specs.Saying.{columnOf};
+ghost use Rattle.unit.specs.Saying.{columnOf, Vetted};
 ghost use Rattle.unit.specs.UserData.{userDataOf};
 use book::Event;
 use book::Terms;
@@ -87,53 +87,49 @@ fn column_of(e: Event) -> usize
     }
 }
 
-// What an event does in a state that takes it.
-fn perform(u: Unit, e: Event, event: &[u8], out: &mut [u8]) -> Turn
-    requires { ⌜ (Ready u) × ((takes (u .state) (columnOf e) ≡ true) × (1024 ≤ length (now out))) ⌝ }
-    ensures { λ r. ⌜ Turned u (does (setupOf u) e (drop (frameFrom e) (now (event .entry))) (stateOf u)) (now (out .entry)) r (now (out .exit)) ⌝ }
+// Whether an event is turned away before anything is done: 6, 9, or 1 by the turn table; else 0. It has a function of its own so that `handle` hands
+// the unit on once: each hand-over is a copy.
+fn turned_away(u: Unit, e: Event, room: usize) -> u8
+    ensures { λ r. ⌜ Vetted room u e r ⌝ }
 {
-    match e {
-        Event::Malformed => refuse(u, 8),
-        Event::Transfer(confirmed, terms) => {
-            requests::on_request(u, confirmed, terms, after(event, 4), out)
+    if room < 1024 {
+        return 6;
+    }
+    if sound::sound(u) {
+        let column = column_of(e);
+        let s = u.state as usize;
+        if turns::taken(s, column) {
+            return 0;
         }
-        Event::End => ends::on_end(u, out),
-        Event::Tick => ends::on_tick(u, out),
-        Event::StartAsked(terms) => starts::on_start(u, terms, after(event, 4), out),
-        Event::StartAnswered(accepted) => starts::on_reply(u, accepted, after(event, 2), out),
-        Event::Data => data::on_data(u, after(event, 1), out),
-        Event::EndAsked => ends::on_end_asked(u, out),
-        Event::EndAnswered(accepted) => ends::on_end_answered(u, out, accepted),
-        Event::Aborted => ends::on_abort(u, out, 0),
-        Event::Dropped => ends::on_abort(u, out, 1),
+        return 1;
     }
-}
-
-// The event of a sound unit: refusal 1 by the turn table, or what it does.
-fn act(u: Unit, e: Event, event: &[u8], out: &mut [u8]) -> Turn
-    requires { ⌜ (Ready u) × (1024 ≤ length (now out)) ⌝ }
-    ensures { λ r. ⌜ Turned u (does (setupOf u) e (drop (frameFrom e) (now (event .entry))) (stateOf u)) (now (out .entry)) r (now (out .exit)) ⌝ }
-{
-    let column = column_of(e);
-    let s = u.state as usize;
-    if turns::taken(s, column) {
-        return perform(u, e, event, out);
-    }
-    refuse(u, 1)
+    9
 }
 
 // One event: the unit after it, and its lines in the lent buffer.
 pub fn handle(unit: Unit, event: &[u8], out: &mut [u8]) -> Turn
     ensures { λ r. ⌜ Turned unit (step (length (now (out .entry))) unit (now (event .entry))) (now (out .entry)) r (now (out .exit)) ⌝ }
 {
-    if out.len() < 1024 {
-        return refuse(unit, 6);
+    let e = events::event_of(event);
+    let number = turned_away(unit, e, out.len());
+    if 0 < number {
+        return refuse(unit, number);
     }
-    if sound::sound(unit) {
-        let e = events::event_of(event);
-        return act(unit, e, event, out);
+    match e {
+        Event::Malformed => refuse(unit, 8),
+        Event::Transfer(confirmed, terms) => {
+            requests::on_request(unit, confirmed, terms, after(event, 4), out)
+        }
+        Event::End => ends::on_end(unit, out),
+        Event::Tick => ends::on_tick(unit, out),
+        Event::StartAsked(terms) => starts::on_start(unit, terms, after(event, 4), out),
+        Event::StartAnswered(accepted) => starts::on_reply(unit, accepted, after(event, 2), out),
+        Event::Data => data::on_data(unit, after(event, 1), out),
+        Event::EndAsked => ends::on_end_asked(unit, out),
+        Event::EndAnswered(accepted) => ends::on_end_answered(unit, out, accepted),
+        Event::Aborted => ends::on_abort(unit, out, 0),
+        Event::Dropped => ends::on_abort(unit, out, 1),
     }
-    refuse(unit, 9)
 }
 
 // The name at the front of an array of 0.

@@ -1,45 +1,229 @@
--- `unit::handle` meets its contract. Closed by laws of Sounds and Gave and EntryLaws, one for each way out.
-use Prim.Native.Nat.{ℕ, _<_}
-use lib.ListN.{getD}
-use mir.Syntax.{w8}
-use mir.Val.{Fits}
-use mathlib.Core.Path.{sym, _∙_}
-use Rattle.state.proofs.Sounds.{ready}
+-- `unit::handle` meets its contract. Closed by laws of Gave and EntryLaws, one for each way out.
+use mathlib.Core.Path.{refl, _∙_}
+use denote.Ref.{now}
+use Rattle.book.specs.Step.{does}
 use Rattle.unit.proofs.Gave.{refuses, turned-as}
-use Rattle.unit.proofs.EntryLaws.{step-small, step-unsound, step-does}
+use Rattle.unit.proofs.EntryLaws.{does-as, does-transfer, does-start, does-reply, does-data, does-malformed, takes-as, takes-dropped}
 use borrow.Author.Needs.{needs}
 use Rattle.unit.proofs.handle.Statement.{statement}
 use Rattle.unit.proofs.handle.Tie as tie
+
+event-of-requires : tie.Need-event-of-requires
+event-of-requires c κs = search needs
+
+turned-away-requires : tie.Need-turned-away-requires
+turned-away-requires c κs = search needs
 
 refuse-requires : tie.Need-refuse-requires
 refuse-requires c κs = search needs
 
 returns : tie.Need-returns
-returns c = refuses (step-small _ (c .before .before .before .before .args .unit) _ (c .before .if1 .taken)) (c .refuse .ensures)
+returns c = refuses ((c .before .before .turned-away .ensures) .refuses (c .before .if1 .taken) _ (c .before .before .before .event-of .ensures)) (c .refuse .ensures)
 
-sound-requires : tie.Need-sound-requires
-sound-requires c κs = search needs
-
-event-of-requires : tie.Need-event-of-requires
-event-of-requires c κs = search needs
-
-act-requires : tie.Need-act-requires
-act-requires c κs =
-    let u = c .before .before .before .before .before .before .before .args .unit in
-    let small : (i : ℕ) → getD (u .kept) i 0 < 256 = λ i. let f : Fits w8 (getD (u .kept) i 0) = search needs in f .fits in
-    (ready u (sym (c .before .before .before .sound .ensures) ∙ c .before .before .if2 .taken) (search needs) (search needs) (search needs) small, search needs)
-
-same-length : tie.Need-same-length
-same-length c = search needs
-
-returns-2 : tie.Need-returns-2
-returns-2 c = turned-as (step-does _ (c .before .before .before .before .before .before .before .before .before .before .args .unit) _ (c .before .before .before .before .before .before .before .if1 .left) (c .before .before .before .before .before .before .sound .ensures) (c .before .before .before .before .before .if2 .taken) (c .before .before .before .before .event-of .ensures)) (c .before .before .act .ensures)
+enum-told : tie.Need-enum-told
+enum-told c = search needs
 
 refuse-requires-2 : tie.Need-refuse-requires-2
 refuse-requires-2 c κs = search needs
 
+enum-known-e : tie.Need-enum-known-e
+enum-known-e c = search needs
+
+after-requires : tie.Need-after-requires
+after-requires c κs = search needs
+
+on-request-requires : tie.Need-on-request-requires
+on-request-requires c κs = let k = (c .before .before .before .before .before .before .turned-away .ensures) .clear (c .before .before .before .before .before .if1 .left) in (k .ready, k .space)
+
+enum-told-2 : tie.Need-enum-told-2
+enum-told-2 c = search needs
+
+on-end-requires : tie.Need-on-end-requires
+on-end-requires c κs = let k = (c .before .before .before .before .turned-away .ensures) .clear (c .before .before .before .if1 .left) in (k .ready, (takes-as (c .before .before .before .before .before .before .before .before .args .unit) (c .before .enum-told2 .given .1) refl (k .taken), k .space))
+
+enum-told-3 : tie.Need-enum-told-3
+enum-told-3 c = search needs
+
+on-tick-requires : tie.Need-on-tick-requires
+on-tick-requires c κs = let k = (c .before .before .before .before .turned-away .ensures) .clear (c .before .before .before .if1 .left) in (k .ready, k .space)
+
+enum-known-e-2 : tie.Need-enum-known-e-2
+enum-known-e-2 c = search needs
+
+after-requires-2 : tie.Need-after-requires-2
+after-requires-2 c κs = search needs
+
+on-start-requires : tie.Need-on-start-requires
+on-start-requires c κs = let k = (c .before .before .before .before .before .before .turned-away .ensures) .clear (c .before .before .before .before .before .if1 .left) in (k .ready, (takes-as (c .before .before .before .before .before .before .before .before .before .before .args .unit) (c .before .before .before .e2 .given .1) refl (k .taken), k .space))
+
+enum-known-e-3 : tie.Need-enum-known-e-3
+enum-known-e-3 c = search needs
+
+after-requires-3 : tie.Need-after-requires-3
+after-requires-3 c κs = search needs
+
+on-reply-requires : tie.Need-on-reply-requires
+on-reply-requires c κs = let k = (c .before .before .before .before .before .before .turned-away .ensures) .clear (c .before .before .before .before .before .if1 .left) in (k .ready, (takes-as (c .before .before .before .before .before .before .before .before .before .before .args .unit) (c .before .before .before .e3 .given .1) refl (k .taken), k .space))
+
+enum-told-4 : tie.Need-enum-told-4
+enum-told-4 c = search needs
+
+after-requires-4 : tie.Need-after-requires-4
+after-requires-4 c κs = search needs
+
+on-data-requires : tie.Need-on-data-requires
+on-data-requires c κs = let k = (c .before .before .before .before .before .turned-away .ensures) .clear (c .before .before .before .before .if1 .left) in (k .ready, (takes-as (c .before .before .before .before .before .before .before .before .before .args .unit) (c .before .before .enum-told4 .given .1) refl (k .taken), k .space))
+
+enum-told-5 : tie.Need-enum-told-5
+enum-told-5 c = search needs
+
+on-end-asked-requires : tie.Need-on-end-asked-requires
+on-end-asked-requires c κs = let k = (c .before .before .before .before .turned-away .ensures) .clear (c .before .before .before .if1 .left) in (k .ready, (takes-as (c .before .before .before .before .before .before .before .before .args .unit) (c .before .enum-told5 .given .1) refl (k .taken), k .space))
+
+enum-known-e-4 : tie.Need-enum-known-e-4
+enum-known-e-4 c = search needs
+
+on-end-answered-requires : tie.Need-on-end-answered-requires
+on-end-answered-requires c κs = let k = (c .before .before .before .before .before .turned-away .ensures) .clear (c .before .before .before .before .if1 .left) in (k .ready, (takes-as (c .before .before .before .before .before .before .before .before .before .args .unit) (c .before .before .e4 .given .1) refl (k .taken), k .space))
+
+enum-told-6 : tie.Need-enum-told-6
+enum-told-6 c = search needs
+
+on-abort-requires : tie.Need-on-abort-requires
+on-abort-requires c κs = let k = (c .before .before .before .before .turned-away .ensures) .clear (c .before .before .before .if1 .left) in (k .ready, (takes-as (c .before .before .before .before .before .before .before .before .args .unit) (c .before .enum-told6 .given .1) refl (k .taken), k .space))
+
+enum-told-7 : tie.Need-enum-told-7
+enum-told-7 c = search needs
+
+on-abort-requires-2 : tie.Need-on-abort-requires-2
+on-abort-requires-2 c κs = let k = (c .before .before .before .before .turned-away .ensures) .clear (c .before .before .before .if1 .left) in (k .ready, (takes-dropped (c .before .before .before .before .before .before .before .before .args .unit) (c .before .enum-told7 .given .1) (k .taken), k .space))
+
+returns-2 : tie.Need-returns-2
+unfolding does
+returns-2 c = let k = (c .before .before .before .before .turned-away .ensures) .clear (c .before .before .before .if1 .left) in refuses (k .steps _ (c .before .before .before .before .before .event-of .ensures) ∙ does-malformed (c .before .before .before .before .before .before .before .before .args .unit) (now (c .before .before .before .before .before .before .before .before .args .event)) (c .before .enum-told .given .1)) (c .refuse2 .ensures)
+
+same-length : tie.Need-same-length
+same-length c = search needs
+
 returns-3 : tie.Need-returns-3
-returns-3 c = refuses (step-unsound _ (c .before .before .before .before .before .before .args .unit) _ (c .before .before .before .if1 .left) (c .before .before .sound .ensures) (c .before .if2 .left)) (c .refuse2 .ensures)
+unfolding does
+returns-3 c = let k = (c .before .before .before .before .before .before .before .before .before .turned-away .ensures) .clear (c .before .before .before .before .before .before .before .before .if1 .left) in turned-as (k .steps _ (c .before .before .before .before .before .before .before .before .before .before .event-of .ensures)) (does-transfer (c .before .before .before .before .before .before .before .before .before .before .before .before .before .args .unit) (now (c .before .before .before .before .before .before .before .before .before .before .before .before .before .args .event)) _ _ _ (c .before .before .before .before .before .before .e .given .1) (c .before .before .before .before .after .ensures) (c .before .before .on-request .ensures))
+
+same-length-2 : tie.Need-same-length-2
+same-length-2 c = search needs
+
+returns-4 : tie.Need-returns-4
+unfolding does
+returns-4 c = let k = (c .before .before .before .before .before .before .before .turned-away .ensures) .clear (c .before .before .before .before .before .before .if1 .left) in turned-as (k .steps _ (c .before .before .before .before .before .before .before .before .event-of .ensures)) (does-as (c .before .before .before .before .before .before .before .before .before .before .before .args .unit) (now (c .before .before .before .before .before .before .before .before .before .before .before .args .event)) _ (c .before .before .before .before .enum-told2 .given .1) (c .before .before .on-end .ensures))
+
+same-length-3 : tie.Need-same-length-3
+same-length-3 c = search needs
+
+returns-5 : tie.Need-returns-5
+unfolding does
+returns-5 c = let k = (c .before .before .before .before .before .before .before .turned-away .ensures) .clear (c .before .before .before .before .before .before .if1 .left) in turned-as (k .steps _ (c .before .before .before .before .before .before .before .before .event-of .ensures)) (does-as (c .before .before .before .before .before .before .before .before .before .before .before .args .unit) (now (c .before .before .before .before .before .before .before .before .before .before .before .args .event)) _ (c .before .before .before .before .enum-told3 .given .1) (c .before .before .on-tick .ensures))
+
+same-length-4 : tie.Need-same-length-4
+same-length-4 c = search needs
+
+returns-6 : tie.Need-returns-6
+unfolding does
+returns-6 c = let k = (c .before .before .before .before .before .before .before .before .before .turned-away .ensures) .clear (c .before .before .before .before .before .before .before .before .if1 .left) in turned-as (k .steps _ (c .before .before .before .before .before .before .before .before .before .before .event-of .ensures)) (does-start (c .before .before .before .before .before .before .before .before .before .before .before .before .before .args .unit) (now (c .before .before .before .before .before .before .before .before .before .before .before .before .before .args .event)) _ _ (c .before .before .before .before .before .before .e2 .given .1) (c .before .before .before .before .after2 .ensures) (c .before .before .on-start .ensures))
+
+same-length-5 : tie.Need-same-length-5
+same-length-5 c = search needs
+
+returns-7 : tie.Need-returns-7
+unfolding does
+returns-7 c = let k = (c .before .before .before .before .before .before .before .before .before .turned-away .ensures) .clear (c .before .before .before .before .before .before .before .before .if1 .left) in turned-as (k .steps _ (c .before .before .before .before .before .before .before .before .before .before .event-of .ensures)) (does-reply (c .before .before .before .before .before .before .before .before .before .before .before .before .before .args .unit) (now (c .before .before .before .before .before .before .before .before .before .before .before .before .before .args .event)) _ _ (c .before .before .before .before .before .before .e3 .given .1) (c .before .before .before .before .after3 .ensures) (c .before .before .on-reply .ensures))
+
+same-length-6 : tie.Need-same-length-6
+same-length-6 c = search needs
+
+returns-8 : tie.Need-returns-8
+unfolding does
+returns-8 c = let k = (c .before .before .before .before .before .before .before .before .turned-away .ensures) .clear (c .before .before .before .before .before .before .before .if1 .left) in turned-as (k .steps _ (c .before .before .before .before .before .before .before .before .before .event-of .ensures)) (does-data (c .before .before .before .before .before .before .before .before .before .before .before .before .args .unit) (now (c .before .before .before .before .before .before .before .before .before .before .before .before .args .event)) _ (c .before .before .before .before .before .enum-told4 .given .1) (c .before .before .before .before .after4 .ensures) (c .before .before .on-data .ensures))
+
+same-length-7 : tie.Need-same-length-7
+same-length-7 c = search needs
+
+returns-9 : tie.Need-returns-9
+unfolding does
+returns-9 c = let k = (c .before .before .before .before .before .before .before .turned-away .ensures) .clear (c .before .before .before .before .before .before .if1 .left) in turned-as (k .steps _ (c .before .before .before .before .before .before .before .before .event-of .ensures)) (does-as (c .before .before .before .before .before .before .before .before .before .before .before .args .unit) (now (c .before .before .before .before .before .before .before .before .before .before .before .args .event)) _ (c .before .before .before .before .enum-told5 .given .1) (c .before .before .on-end-asked .ensures))
+
+same-length-8 : tie.Need-same-length-8
+same-length-8 c = search needs
+
+returns-10 : tie.Need-returns-10
+unfolding does
+returns-10 c = let k = (c .before .before .before .before .before .before .before .before .turned-away .ensures) .clear (c .before .before .before .before .before .before .before .if1 .left) in turned-as (k .steps _ (c .before .before .before .before .before .before .before .before .before .event-of .ensures)) (does-as (c .before .before .before .before .before .before .before .before .before .before .before .before .args .unit) (now (c .before .before .before .before .before .before .before .before .before .before .before .before .args .event)) _ (c .before .before .before .before .before .e4 .given .1) (c .before .before .on-end-answered .ensures))
+
+same-length-9 : tie.Need-same-length-9
+same-length-9 c = search needs
+
+returns-11 : tie.Need-returns-11
+unfolding does
+returns-11 c = let k = (c .before .before .before .before .before .before .before .turned-away .ensures) .clear (c .before .before .before .before .before .before .if1 .left) in turned-as (k .steps _ (c .before .before .before .before .before .before .before .before .event-of .ensures)) (does-as (c .before .before .before .before .before .before .before .before .before .before .before .args .unit) (now (c .before .before .before .before .before .before .before .before .before .before .before .args .event)) _ (c .before .before .before .before .enum-told6 .given .1) (c .before .before .on-abort .ensures))
+
+same-length-10 : tie.Need-same-length-10
+same-length-10 c = search needs
+
+returns-12 : tie.Need-returns-12
+unfolding does
+returns-12 c = let k = (c .before .before .before .before .before .before .before .turned-away .ensures) .clear (c .before .before .before .before .before .before .if1 .left) in turned-as (k .steps _ (c .before .before .before .before .before .before .before .before .event-of .ensures)) (does-as (c .before .before .before .before .before .before .before .before .before .before .before .args .unit) (now (c .before .before .before .before .before .before .before .before .before .before .before .args .event)) _ (c .before .before .before .before .enum-told7 .given .1) (c .before .before .on-abort2 .ensures))
 
 pub handle-spec : {M : Type 1} → statement M
-handle-spec = tie.close (tie.spec refuse-requires returns sound-requires event-of-requires act-requires same-length returns-2 refuse-requires-2 returns-3)
+handle-spec =
+    tie.close
+    (tie.spec
+    event-of-requires
+    turned-away-requires
+    refuse-requires
+    returns
+    enum-told
+    refuse-requires-2
+    enum-known-e
+    after-requires
+    on-request-requires
+    enum-told-2
+    on-end-requires
+    enum-told-3
+    on-tick-requires
+    enum-known-e-2
+    after-requires-2
+    on-start-requires
+    enum-known-e-3
+    after-requires-3
+    on-reply-requires
+    enum-told-4
+    after-requires-4
+    on-data-requires
+    enum-told-5
+    on-end-asked-requires
+    enum-known-e-4
+    on-end-answered-requires
+    enum-told-6
+    on-abort-requires
+    enum-told-7
+    on-abort-requires-2
+    returns-2
+    same-length
+    returns-3
+    same-length-2
+    returns-4
+    same-length-3
+    returns-5
+    same-length-4
+    returns-6
+    same-length-5
+    returns-7
+    same-length-6
+    returns-8
+    same-length-7
+    returns-9
+    same-length-8
+    returns-10
+    same-length-9
+    returns-11
+    same-length-10
+    returns-12)
