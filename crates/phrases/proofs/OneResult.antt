@@ -8,6 +8,7 @@ use Rattle.octets.specs.Put.{Put}
 use Rattle.phrases.proofs.spelling.say.Reads as say
 use Rattle.phrases.proofs.spelling.number.Reads as number
 use Rattle.phrases.proofs.spelling.octet.Reads as octet
+use Rattle.phrases.proofs.spelling.front.Reads as front
 use Rattle.phrases.proofs.spelling.beginning.Reads as beginning
 use Rattle.phrases.proofs.tables.terms.Reads as terms
 use Rattle.phrases.proofs.tables.accepted.Reads as accepted
@@ -42,6 +43,9 @@ one-octet κs a x y e f p q = same-place (p .0) (q .0)
 
 pub one-octet-buffer : Leaves octet.Post (λ κs r e. now (e .0))
 one-octet-buffer κs a x y e f p q = same-held (p .0) (q .0)
+
+pub one-front : Leaves front.Post (λ κs r e. now r)
+one-front κs a x y e f p q = p ∙ sym q
 
 pub one-beginning : Leaves beginning.Post (λ κs r e. r)
 one-beginning κs a x y e f p q = same-place (p .0) (q .0)

@@ -127,7 +127,7 @@ fn shown(out: &mut [u8], at: usize, s: &[u8]) -> usize
 }
 
 // The first n octets; all where there are fewer.
-fn front(s: &[u8], n: usize) -> &[u8]
+pub fn front(s: &[u8], n: usize) -> &[u8]
     ensures { λ r. ⌜ now r ≡ take n (now (s .entry)) ⌝ }
 {
     if s.len() < n {
