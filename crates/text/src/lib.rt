@@ -139,7 +139,7 @@ fn fits(room: usize, at: usize, n: usize) -> bool
 }
 
 // The digits of octets, from a place on.
-fn put_digits(out: &mut [u8], at: usize, line: &[u8]) -> usize
+pub fn put_digits(out: &mut [u8], at: usize, line: &[u8]) -> usize
     requires { ⌜ at + 2 * length (now line) < length (now out) ⌝ }
     ensures { λ r. ⌜ (r ≡ at + 2 * length (now (line .entry))) × (now (out .exit) ≡ sets (now (out .entry)) at (digitsOf (now (line .entry)))) ⌝ }
 {

@@ -1,0 +1,4 @@
+pub mod SpellLaws
+pub mod TableLaws
+pub mod FrameLaws
+pub mod OneResult
