@@ -1,19 +1,17 @@
 -- Laws of a line's octets: what is asked of them, one law for each way out. Closed by `rw` with the tests, and by induction on the octets.
-use Prim.Native.Nat.{ℕ, zero, suc, _+_, _-_, _*_, _<_, _≤_}
-use mathlib.Core.Path.{_≡_, refl, ap, sym, _∙_}
-use mathlib.Core.Bool.{Bool, true, false, not}
-use mathlib.Core.List.{List, [], _∷_, _++_}
+use Prim.Native.Nat.{ℕ, zero, suc, _+_, _-_, _<_, _≤_}
+use mathlib.Core.Path.{_≡_, refl, sym, _∙_}
+use mathlib.Core.Bool.{Bool, true, false}
+use mathlib.Core.List.{List, [], _∷_}
 use native.Mathlib.Numerals.{add-one}
 use native.Mathlib.Omega.{arith}
-use borrow.Author.Tests.{le-leb, lt-leb, le-ltb, lt-ltb, eq-eqb, ne-eqb}
-use lib.Dec.{ltb, leb, eqb}
+use borrow.Author.Tests.{le-leb, lt-leb, eq-eqb, ne-eqb}
+use lib.Dec.{leb}
 use lib.ListN.{length, take, drop, getD, length-drop, drop-of-length-le}
 use lib.Seq.{drop-cons, take-all}
-use Rattle.octets.specs.Choice.{pick, both, either}
-use Rattle.octets.specs.Put.{Put}
+use Rattle.octets.specs.Choice.{both}
 use Rattle.book.specs.Events.{termsIn}
 use Rattle.book.specs.Sound.{withinLimits}
-use Rattle.book.specs.declared.Terms.{Terms}
 use Rattle.words.specs.Lines.{two, isSetup, isTermed, isPair, isLed, isReasoned, begins}
 
 pub octet-out : (s : List ℕ) (i : ℕ) → length s ≤ i → 0 ≡ getD s i 0
