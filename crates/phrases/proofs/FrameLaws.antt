@@ -1,16 +1,14 @@
 -- Laws of a frame in words: a field that is present or not, and each way out of a reading. Closed by `rw` with what was read.
 use Prim.Native.Nat.{ℕ}
-use mathlib.Core.Path.{_≡_, refl, ap, sym, _∙_}
-use mathlib.Core.Option.{Option, none, some}
-use mathlib.Core.List.{List, [], _++_}
+use mathlib.Core.Path.{_≡_}
+use mathlib.Core.List.{List, _++_}
 use borrow.Author.Tests.{eq-eqb, ne-eqb}
 use lib.ListN.{length}
 use Rattle.octets.specs.Put.{Put}
 use Rattle.octets.proofs.Puts as Puts
-use Rattle.octets.proofs.Puts.{then, put-as}
 use Rattle.frame.specs.Faults.{faultNumber}
 use Rattle.frame.specs.Reading.{readingOf}
-use Rattle.frame.specs.Decoding.{octetIn, numberIn, oneOctet, twoOctets, heldAt, partAt}
+use Rattle.frame.specs.Decoding.{octetIn, numberIn, twoOctets, heldAt, partAt}
 use Rattle.frame.specs.declared.Fault.{Fault}
 use Rattle.frame.specs.declared.Field.{Field}
 use Rattle.frame.specs.declared.Field.the-variants.{Absent, At}
@@ -23,7 +21,7 @@ use Rattle.frame.specs.declared.TwoOctets.{TwoOctets}
 use Rattle.frame.specs.declared.TwoOctets.the-variants.{NoNumber, Number}
 use Rattle.phrases.specs.Spelling.{spelled, decimal, beginning}
 use Rattle.phrases.specs.Tables.{faultMeaning}
-use Rattle.phrases.specs.Frames.{numbered, senderWords, dataWords, extensionWords, messageWords, faultWords, frameWords, frameOrNothing, answeredIn, answeredWords}
+use Rattle.phrases.specs.Frames.{numbered, senderWords, dataWords, extensionWords, messageWords, faultWords, frameWords, frameOrNothing, answeredWords}
 
 -- ---- a number that may be absent
 

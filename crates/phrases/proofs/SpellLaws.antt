@@ -1,17 +1,15 @@
 -- Laws of spelling: a table's entry, a number's digits, and octets as they are shown. Closed by `rw` with the tests, and by induction on the octets.
-use Prim.Native.Nat.{ℕ, zero, suc, _+_, _-_, _*_, _/_, _<_, _≤_}
-use mathlib.Core.Path.{_≡_, refl, ap, sym, _∙_}
+use Prim.Native.Nat.{ℕ, suc, _+_, _*_, _/_, _<_, _≤_}
+use mathlib.Core.Path.{_≡_, refl, sym, _∙_}
 use mathlib.Core.Bool.{Bool, true, false, not}
 use mathlib.Core.List.{List, [], _∷_, _++_}
 use native.Mathlib.Numerals.{add-one}
 use native.Mathlib.Omega.{arith}
-use borrow.Author.Tests.{le-leb, lt-leb, le-ltb, lt-ltb, eq-eqb, ne-eqb}
-use lib.Dec.{ltb, leb, eqb}
+use borrow.Author.Tests.{le-leb, lt-leb, le-ltb, lt-ltb, ne-eqb}
+use lib.Dec.{eqb}
 use lib.ListN.{length, take, drop, getD, drop-of-length-le, length-take}
 use lib.Seq.{drop-cons, sets}
-use Rattle.octets.specs.Choice.{pick, both, either}
 use Rattle.octets.specs.Put.{Put}
-use Rattle.octets.proofs.Puts as Puts
 use Rattle.text.specs.Printing.{digitsOf}
 use Rattle.text.proofs.PrintLaws.{digits-long}
 use Rattle.phrases.specs.Spelling.{spelled, digit, decimalIn, printable, allPrintable, quote, shown, moreWords, beginning}

@@ -3,3 +3,4 @@ pub mod FeedLaws
 pub mod PrintLaws
 pub mod RoundTrip
 pub mod OneResult
+pub mod Found

@@ -1,6 +1,6 @@
 -- Laws of a line by its kind, and of a choice that a test makes. Closed by `rw` with the tests.
 use Prim.Native.Nat.{ℕ}
-use mathlib.Core.Path.{_≡_, refl, ap, sym, _∙_}
+use mathlib.Core.Path.{_≡_}
 use mathlib.Core.Bool.{Bool, true, false}
 use mathlib.Core.List.{List, _++_}
 use borrow.Author.Tests.{eq-eqb, ne-eqb}

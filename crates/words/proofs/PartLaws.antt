@@ -1,18 +1,17 @@
 -- Laws of a line's octets: what is asked of them, one law for each way out. Closed by `rw` with the tests, and by induction on the octets.
-use Prim.Native.Nat.{ℕ, zero, suc, _+_, _-_, _*_, _<_, _≤_}
-use mathlib.Core.Path.{_≡_, refl, ap, sym, _∙_}
-use mathlib.Core.Bool.{Bool, true, false, not}
-use mathlib.Core.List.{List, [], _∷_, _++_}
+use Prim.Native.Nat.{ℕ, zero, suc, _+_, _-_, _<_, _≤_}
+use mathlib.Core.Path.{_≡_, refl, sym, _∙_}
+use mathlib.Core.Bool.{Bool, true, false}
+use mathlib.Core.List.{List, [], _∷_}
 use native.Mathlib.Numerals.{add-one}
 use native.Mathlib.Omega.{arith}
-use borrow.Author.Tests.{le-leb, lt-leb, le-ltb, lt-ltb, eq-eqb, ne-eqb}
-use lib.Dec.{ltb, leb, eqb}
+use borrow.Author.Tests.{le-leb, lt-leb, eq-eqb, ne-eqb}
+use lib.Dec.{leb}
 use lib.ListN.{length, take, drop, getD, length-drop, drop-of-length-le}
 use lib.Seq.{drop-cons, take-all}
-use Rattle.octets.specs.Choice.{pick, both, either}
-use Rattle.octets.specs.Put.{Put}
+use Rattle.octets.specs.Choice.{both}
 use Rattle.book.specs.Events.{termsIn}
-use Rattle.book.specs.declared.Terms.{Terms}
+use Rattle.book.specs.Sound.{withinLimits}
 use Rattle.words.specs.Lines.{two, isSetup, isTermed, isPair, isLed, isReasoned, begins}
 
 pub octet-out : (s : List ℕ) (i : ℕ) → length s ≤ i → 0 ≡ getD s i 0
@@ -37,28 +36,9 @@ both-no false = refl
 -- ---- tests
 
 module _ (s : List ℕ) where
-  pub setup-short : length s < 8 → false ≡ isSetup s
+  pub setup-as : {a b c : ℕ} {t : List ℕ} → a ≡ two s 1 → b ≡ two s 3 → c ≡ two s 5 → t ≡ drop 7 s → withinLimits a b c (length t) ≡ isSetup s
   unfolding isSetup
-  setup-short h = rw (lt-leb 8 (length s) h)
-
-  module _ (h : 8 ≤ length s) where
-    pub setup-long : 39 < length s → false ≡ isSetup s
-    unfolding isSetup
-    setup-long l = rw (le-leb 8 (length s) h, lt-leb (length s) 39 l)
-
-    module _ (l : length s ≤ 39) {a : ℕ} (p : a ≡ two s 1) where
-      pub setup-start : a ≡ 0 → false ≡ isSetup s
-      unfolding isSetup
-      setup-start e = rw (le-leb 8 (length s) h, le-leb (length s) 39 l, ← p, e)
-
-      module _ (m : a ≡ 0 → ⊥) {b : ℕ} (q : b ≡ two s 3) where
-        pub setup-end : b ≡ 0 → false ≡ isSetup s
-        unfolding isSetup
-        setup-end e = rw (le-leb 8 (length s) h, le-leb (length s) 39 l, ← p, lt-ltb 0 a (omega arith), ← q, e)
-
-        pub setup-rest : (b ≡ 0 → ⊥) → {c : ℕ} → c ≡ two s 5 → ltb 0 c ≡ isSetup s
-        unfolding isSetup
-        setup-rest n r = rw (le-leb 8 (length s) h, le-leb (length s) 39 l, ← p, lt-ltb 0 a (omega arith), ← q, lt-ltb 0 b (omega arith), ← r)
+  setup-as p q r h = rw (p, q, r, h)
 
   pub termed-short : length s < 4 → false ≡ isTermed s
   unfolding isTermed

@@ -3,7 +3,7 @@
 use Prim.Native.Nat.{ℕ, zero, suc, _+_, _-_, _<_, _≤_}
 use mathlib.Core.Path.{_≡_, refl, ap, sym, subst, _∙_}
 use mathlib.Core.Bool.{Bool, true, false}
-use mathlib.Core.Option.{Option, none, some}
+use mathlib.Core.Option.{none, some}
 use mathlib.Core.List.{List, [], _∷_, _++_, append-nil, append-assoc}
 use native.Mathlib.Numerals.{add-one}
 use native.Mathlib.Omega.{arith}
@@ -13,7 +13,7 @@ use lib.ListN.{length, take, drop, length-append, length-drop}
 use lib.Seq.{drop-drop, drop-length}
 use Rattle.octets.specs.Choice.{pick, both, either}
 use Rattle.text.specs.Reading.{leading, toFeed, eventIn}
-use Rattle.words.specs.Lines.{noDigits, begins, frameWord, bareWords, octetsWords, explained}
+use Rattle.words.specs.Lines.{noDigits, begins, frameWord, explained}
 use Rattle.words.specs.Feeding.{fresh, lineText, explanationFrom, explanation, Taken, lineTaken, most, Feeding, resting, then, feeding, finishing}
 use Rattle.words.specs.Runs.{Run, read, fed, finished}
 use Rattle.words.specs.declared.Reader.{Reader}

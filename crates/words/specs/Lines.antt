@@ -4,11 +4,12 @@ use Prim.Native.Nat.{ℕ, _+_, _*_}
 use mathlib.Core.Bool.{Bool, true, false}
 use mathlib.Core.Option.{Option, none, some}
 use mathlib.Core.List.{List, [], _∷_, _++_}
-use lib.Dec.{eqb, ltb, leb}
+use lib.Dec.{eqb, leb}
 use lib.ListN.{length, drop, getD}
 use Rattle.octets.specs.Choice.{pick, both, either}
 use Rattle.text.specs.Reading.{eventIn}
 use Rattle.book.specs.Events.{eventOf, termsIn}
+use Rattle.book.specs.Sound.{withinLimits}
 use Rattle.book.specs.declared.Terms.{Terms}
 use Rattle.book.specs.declared.Event.{Event}
 use Rattle.book.specs.declared.Event.the-variants.{Malformed, Transfer, End, Tick, StartAsked, StartAnswered, Data, EndAsked, EndAnswered, Aborted, Dropped}
@@ -54,11 +55,9 @@ withResult word b = word ++ acceptedWords b
 
 -- ---- input
 
--- "kind 00, then start, end and inactivity limits (2 octets each, 1..65,535), then the unit's name, 1..32 octets"
+-- "kind 00, then start, end and inactivity limits (2 octets each, 1..65,535), then the unit's name, 1..32 octets": the unit's own limits
 unfoldable pub isSetup : List ℕ → Bool
-isSetup s =
-    both (both (leb 8 (length s)) (leb (length s) 39))
-    (both (ltb 0 (two s 1)) (both (ltb 0 (two s 3)) (ltb 0 (two s 5))))
+isSetup s = withinLimits (two s 1) (two s 3) (two s 5) (length (drop 7 s))
 
 unfoldable pub limitsWords : List ℕ → List ℕ
 limitsWords s =

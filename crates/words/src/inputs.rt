@@ -106,7 +106,7 @@ pub(crate) fn number_at(out: &mut [u8], at: usize, s: &[u8], i: usize) -> usize
     requires { ⌜ (i ≤ 9) × (at + 5 ≤ length (now out)) ⌝ }
     ensures { λ r. ⌜ (Put (now (out .entry)) at (decimal (two (now (s .entry)) i)) (now (out .exit)) r) × (r ≤ at + 5) ⌝ }
 {
-    let n = parts::two_at(s, i);
+    let n = parts::two_at(s, i) as usize;
     spelling::number(out, at, n)
 }
 

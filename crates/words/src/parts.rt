@@ -5,6 +5,7 @@ ghost use lib.ListN.{drop, getD};
 ghost use Rattle.book.specs.Events.{termsIn};
 ghost use Rattle.words.specs.Lines.{two, isSetup, isTermed, isPair, isLed, isReasoned, begins};
 use book::Terms;
+use state::sound;
 
 // An octet; 0 where there is none.
 pub(crate) fn octet_at(s: &[u8], i: usize) -> u8
@@ -17,12 +18,12 @@ pub(crate) fn octet_at(s: &[u8], i: usize) -> u8
 }
 
 // A number of two octets.
-pub(crate) fn two_at(s: &[u8], i: usize) -> usize
+pub(crate) fn two_at(s: &[u8], i: usize) -> u16
     requires { ⌜ i < 100 ⌝ }
     ensures { λ r. ⌜ r ≡ two (now (s .entry)) i ⌝ }
 {
-    let high = octets::wide(octet_at(s, i));
-    let low = octets::wide(octet_at(s, i + 1));
+    let high = octets::wide16(octet_at(s, i));
+    let low = octets::wide16(octet_at(s, i + 1));
     256 * high + low
 }
 
@@ -50,23 +51,15 @@ pub(crate) fn terms_at(s: &[u8]) -> Terms
     }
 }
 
-// Whether the limits and the name of a setup are within theirs.
+// Whether the limits and the name of a setup are within theirs, as the unit tests it.
 pub(crate) fn is_setup(s: &[u8]) -> bool
     ensures { λ r. ⌜ r ≡ isSetup (now (s .entry)) ⌝ }
 {
-    if s.len() < 8 {
-        return false;
-    }
-    if 39 < s.len() {
-        return false;
-    }
-    if two_at(s, 1) == 0 {
-        return false;
-    }
-    if two_at(s, 3) == 0 {
-        return false;
-    }
-    0 < two_at(s, 5)
+    let start = two_at(s, 1);
+    let end = two_at(s, 3);
+    let inactivity = two_at(s, 5);
+    let name = after(s, 7);
+    sound::within_limits(start, end, inactivity, name.len())
 }
 
 // Whether terms stand after the kind, their residual error rate low or high.

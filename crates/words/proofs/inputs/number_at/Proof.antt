@@ -9,6 +9,9 @@ use Rattle.words.proofs.inputs.number_at.Tie as tie
 two-at-requires : tie.Need-two-at-requires
 two-at-requires c κs = search needs
 
+cast-n : tie.Need-cast-n
+cast-n c = search needs
+
 number-requires : tie.Need-number-requires
 number-requires c κs = search needs
 
@@ -19,4 +22,4 @@ returns : tie.Need-returns
 returns c = (put-as (ap decimal (c .before .before .before .before .two-at .ensures)) (c .before .before .number .ensures .0), search needs)
 
 pub number-at-spec : {M : Type 1} → statement M
-number-at-spec = tie.close (tie.spec two-at-requires number-requires same-length returns)
+number-at-spec = tie.close (tie.spec two-at-requires cast-n number-requires same-length returns)
