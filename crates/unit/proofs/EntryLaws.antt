@@ -30,19 +30,11 @@ use Rattle.book.specs.Picture.{picture, setupOf, stateOf, padded, noTerms}
 use Rattle.book.specs.Sound.{soundOf, withinLimits}
 use Rattle.book.specs.Step.{does, orNothing, step, Turned, turnOf, setUp, blank}
 use Rattle.book.specs.Ready.{Ready}
-use Rattle.unit.specs.Moves.{made}
-use Rattle.unit.specs.Saying.{columnOf, Cleared, Vetted}
+use Rattle.turn_laws.specs.Moves.{made}
+use Rattle.unit.specs.Vetting.{columnOf, Cleared, Vetted}
 use Rattle.unit.specs.UserData.{userDataOf}
-use Rattle.unit.proofs.Moved.{not-taken, made-is, padded-none}
-use Rattle.unit.proofs.Gave.{turned-as}
-
--- ---- a part of the event
-
-pub after-none : (ev : List ℕ) (from : ℕ) → length ev < from → [] ≡ drop from ev
-after-none ev from h = sym (drop-of-length-le ev {i = from} (omega arith))
-
-pub after-some : (ev : List ℕ) (from n : ℕ) → n ≡ length ev → from ≤ length ev → take (n - from) (drop from ev) ≡ drop from ev
-after-some ev from n e h = take-all (n - from) (drop from ev) (omega (arith, length-drop from ev))
+use Rattle.turn_laws.proofs.Moved.{not-taken, made-is, padded-none}
+use Rattle.turn_laws.proofs.StepLaws.{step-small, step-unsound, step-does}
 
 -- ---- THE TURN TABLE AND THE RULE BOOK: an event that the table doesn't take is refused with 1 by the rule book
 
@@ -116,54 +108,7 @@ pub takes-dropped : (u : Value) {e : Event} → e ≡ Dropped → takes (u .stat
 unfolding takes
 takes-dropped u q t = ap (λ x. takes (u .state) (columnOf x)) (sym q) ∙ t
 
--- ---- what each event does
-
-module _ (u : Value) (ev : List ℕ) {e : Event} {r : Turn} {before after : List ℕ} where
-  pub does-as : (g : Event) → e ≡ g → Turned u (does (setupOf u) g (drop (frameFrom g) ev) (stateOf u)) before r after →
-      Turned u (does (setupOf u) e (drop (frameFrom e) ev) (stateOf u)) before r after
-  does-as g q t = turned-as (ap (λ x. does (setupOf u) x (drop (frameFrom x) ev) (stateOf u)) q) t
-
--- the events that carry a frame, f
-module _ (u : Value) (ev f : List ℕ) {e : Event} {r : Turn} {before after : List ℕ} where
-  pub does-transfer : (c : Bool) (a : Terms) → e ≡ Transfer c a → f ≡ drop 4 ev → Turned u (on-request c a (readingIn f) (stateOf u)) before r after →
-      Turned u (does (setupOf u) e (drop (frameFrom e) ev) (stateOf u)) before r after
-  unfolding does
-  does-transfer c a q z t = does-as u ev (Transfer c a) q (turned-as (ap (λ g. on-request c a (readingIn g) (stateOf u)) (sym z)) t)
-
-  pub does-start : (a : Terms) → e ≡ StartAsked a → f ≡ drop 4 ev → Turned u (on-start (setupOf u) a (orNothing f) (stateOf u)) before r after →
-      Turned u (does (setupOf u) e (drop (frameFrom e) ev) (stateOf u)) before r after
-  unfolding does
-  does-start a q z t = does-as u ev (StartAsked a) q (turned-as (ap (λ g. on-start (setupOf u) a (orNothing g) (stateOf u)) (sym z)) t)
-
-  pub does-reply : (b : Bool) → e ≡ StartAnswered b → f ≡ drop 2 ev → Turned u (on-reply (setupOf u) b (orNothing f) (stateOf u)) before r after →
-      Turned u (does (setupOf u) e (drop (frameFrom e) ev) (stateOf u)) before r after
-  unfolding does
-  does-reply b q z t = does-as u ev (StartAnswered b) q (turned-as (ap (λ g. on-reply (setupOf u) b (orNothing g) (stateOf u)) (sym z)) t)
-
-  pub does-data : e ≡ Data → f ≡ drop 1 ev → Turned u (on-dat (setupOf u) (readingIn f) (stateOf u)) before r after →
-      Turned u (does (setupOf u) e (drop (frameFrom e) ev) (stateOf u)) before r after
-  unfolding does
-  does-data q z t = does-as u ev Data q (turned-as (ap (λ g. on-dat (setupOf u) (readingIn g) (stateOf u)) (sym z)) t)
-
-pub does-malformed : (u : Value) (ev : List ℕ) {e : Event} → e ≡ Malformed → does (setupOf u) e (drop (frameFrom e) ev) (stateOf u) ≡ refused 8
-unfolding does
-does-malformed u ev q = ap (λ x. does (setupOf u) x (drop (frameFrom x) ev) (stateOf u)) q
-
 -- ---- the tests before the event
-
-module _ (room : ℕ) (u : Value) (ev : List ℕ) where
-  pub step-small : room < 1024 → step room u ev ≡ refused 6
-  unfolding step
-  step-small h = rw (lt-ltb room 1024 h)
-
-  pub step-unsound : 1024 ≤ room → {b : Bool} → b ≡ soundOf u → b ≡ false → step room u ev ≡ refused 9
-  unfolding step
-  step-unsound h q z = rw (le-ltb room 1024 h, sym q ∙ z)
-
-  pub step-does : 1024 ≤ room → {b : Bool} → b ≡ soundOf u → b ≡ true → {e : Event} → e ≡ eventOf ev →
-      step room u ev ≡ does (setupOf u) e (drop (frameFrom e) ev) (stateOf u)
-  unfolding step
-  step-does h q z g = rw (le-ltb room 1024 h, sym q ∙ z, g)
 
 -- the first three tests: which number turns an event away, and what is known where none does
 module _ (room : ℕ) (u : Value) (e : Event) where

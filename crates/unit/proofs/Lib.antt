@@ -1,10 +1,3 @@
-pub mod PenLaws
-pub mod Moved
-pub mod Gave
-pub mod EndLaws
-pub mod DataLaws
-pub mod RequestLaws
-pub mod StartLaws
 pub mod EntryLaws
 pub mod OneResult
 pub mod Refusals

@@ -1,5 +1,2 @@
 pub mod UserData
-pub mod Pens
-pub mod Notes
-pub mod Moves
-pub mod Saying
+pub mod Vetting

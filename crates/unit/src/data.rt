@@ -14,14 +14,11 @@ ghost use Rattle.book.specs.Picture.{setupOf, stateOf};
 ghost use Rattle.book.specs.Turns.{takes};
 ghost use Rattle.book.specs.Step.{Turned};
 ghost use Rattle.book.specs.Ready.{Ready, Reads};
-ghost use Rattle.unit.specs.Pens.{Laid};
-ghost use Rattle.unit.specs.Notes.{AckOf};
-ghost use Rattle.unit.specs.Saying.{seenLines};
+ghost use Rattle.said.specs.Pens.{Laid};
+ghost use Rattle.said.specs.Saying.{seenLines};
 use crate::ends;
 use crate::finished;
 use crate::lines;
-use crate::lines::Note;
-use crate::lines::Pen;
 use crate::moves;
 use book::Found;
 use book::Terms;
@@ -29,6 +26,7 @@ use book::Turn;
 use book::Unit;
 use frame::Header;
 use frame::Reading;
+use said::Pen;
 use state::waiting;
 
 // Line 25, where there are extension fields.
@@ -59,22 +57,6 @@ pub(crate) fn put_given(
     lines::put_framed(out, pen, &head, frame, end)
 }
 
-// The acknowledgement of a confirmed message, as a note.
-pub(crate) fn ack_of(frame: &[u8], h: Header) -> Note
-    ensures { λ r. ⌜ AckOf (now (frame .entry)) h r ⌝ }
-{
-    let t = h.message_type;
-    let i = h.identifier;
-    let message_type = frame::one_octet(frame, t);
-    let reference = state::needed_value(frame::two_octets(frame, i));
-    Note {
-        multi_shot: h.multi_shot,
-        confirmation: 2,
-        message_type: message_type,
-        reference: reference,
-    }
-}
-
 // Confirmation 0.
 fn on_plain(u: Unit, frame: &[u8], h: Header, n: usize, out: &mut [u8]) -> Turn
     requires { ⌜ (Ready u) × ((takes (u .state) 6 ≡ true) × ((Reads (now frame) h n) × ((h .confirmation ≡ 0) × (1024 ≤ length (now out))))) ⌝ }
@@ -98,7 +80,7 @@ fn on_sure(u: Unit, frame: &[u8], h: Header, n: usize, out: &mut [u8]) -> Turn
     let v = moves::rest(u);
     let s = u.state;
     if s == 4 {
-        let note = ack_of(frame, h);
+        let note = said::ack_of(frame, h);
         let head = [0x32];
         let name = u.name;
         let done = lines::put_noted(out, given, &head, note, name, u.letters);
@@ -107,19 +89,12 @@ fn on_sure(u: Unit, frame: &[u8], h: Header, n: usize, out: &mut [u8]) -> Turn
     finished(v, given)
 }
 
-// 0 for confirmedOk, else 1.
-pub(crate) fn result_of(confirmation: u8) -> u8
-    ensures { λ r. ⌜ r ≡ pick (eqb confirmation 2) 0 1 ⌝ }
-{
-    if confirmation == 2 { 0 } else { 1 }
-}
-
 // Line 22 with a received frame.
 pub(crate) fn put_confirmed(out: &mut [u8], pen: Pen, h: Header, frame: &[u8]) -> Pen
     requires { ⌜ (1 ≤ h .end) × ((h .end ≤ length (now frame)) × ((h .end ≤ 554) × ((pen .lines ≤ 100) × (pen .at + 6 + h .end ≤ length (now out))))) ⌝ }
     ensures { λ r. ⌜ Laid (now (out .entry)) pen ((34 ∷ pick (eqb (h .confirmation) 2) 0 1 ∷ bareTo (now (frame .entry)) (h .end)) ∷ []) (now (out .exit)) r ⌝ }
 {
-    let head = [0x22, result_of(h.confirmation)];
+    let head = [0x22, said::result_of(h.confirmation)];
     lines::put_framed(out, pen, &head, frame, h.end)
 }
 

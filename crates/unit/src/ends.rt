@@ -10,15 +10,15 @@ ghost use Rattle.book.specs.Picture.{setupOf, stateOf};
 ghost use Rattle.book.specs.Turns.{takes};
 ghost use Rattle.book.specs.Step.{Turned};
 ghost use Rattle.book.specs.Ready.{Ready};
-ghost use Rattle.unit.specs.Pens.{Laid};
-ghost use Rattle.unit.specs.Saying.{said, maintains, doubts};
+ghost use Rattle.said.specs.Pens.{Laid};
+ghost use Rattle.said.specs.Saying.{said, maintains, doubts};
 use crate::finished;
 use crate::lines;
-use crate::lines::Pen;
-use crate::lines::Say;
 use crate::moves;
 use book::Turn;
 use book::Unit;
+use said::Pen;
+use said::Say;
 use state::sound;
 
 // Every waiting identifier answered uncertain.

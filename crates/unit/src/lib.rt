@@ -11,8 +11,8 @@ ghost use Rattle.book.specs.Events.{frameFrom};
 ghost use Rattle.book.specs.Step.{does, step, turnOf, Turned, setUp};
 ghost use Rattle.book.specs.Ready.{Ready};
 ghost use Rattle.book.specs.Picture.{padded};
-ghost use Rattle.unit.specs.Moves.{made};
-ghost use Rattle.unit.specs.Saying.{columnOf, Vetted};
+ghost use Rattle.turn_laws.specs.Moves.{made};
+ghost use Rattle.unit.specs.Vetting.{columnOf, Vetted};
 ghost use Rattle.unit.specs.UserData.{userDataOf};
 use book::Event;
 use book::Terms;
@@ -20,7 +20,8 @@ use book::Turn;
 use book::Unit;
 use book::Verdict;
 use frame::Reading;
-use lines::Pen;
+use said::Pen;
+use said::after;
 use state::events;
 use state::sound;
 use state::turns;
@@ -55,16 +56,6 @@ fn finished(v: Unit, pen: Pen) -> Turn
         unit: v,
         verdict: d,
     }
-}
-
-// An event without its first octets; nothing where it has no more.
-fn after(event: &[u8], from: usize) -> &[u8]
-    ensures { λ r. ⌜ now r ≡ drop from (now (event .entry)) ⌝ }
-{
-    if event.len() < from {
-        return &event[..0];
-    }
-    &event[from..]
 }
 
 // The column of an event in the turn table. A request is looked up once its frame is read, and a malformed event not at all: both have the column

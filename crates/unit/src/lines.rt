@@ -5,25 +5,14 @@ ghost use Prim.Native.Nat.{_+_, _*_, _≤_, _<_, _/_, _%_};
 ghost use lib.ListN.{length, take};
 ghost use Rattle.octets.specs.Put.{Put};
 ghost use Rattle.frame.specs.Stripping.{bareTo};
-ghost use Rattle.unit.specs.Pens.{Laid};
-ghost use Rattle.frame.specs.Encoding.{weight, typeOctets};
+ghost use Rattle.said.specs.Pens.{Laid};
+ghost use Rattle.frame.specs.Encoding.{typeOctets};
 ghost use Rattle.frame.specs.Decoding.{octetIn};
-ghost use Rattle.unit.specs.Notes.{noteOctets, answerLine};
+ghost use Rattle.said.specs.Notes.{noteOctets, answerLine};
 use frame::OneOctet;
-
-// Where the next line goes, and how many lines stand before it.
-pub(crate) struct Pen {
-    pub at: usize,
-    pub lines: usize,
-}
-
-// What a confirmation that the unit makes itself says beside the unit's name.
-pub(crate) struct Note {
-    pub multi_shot: bool,
-    pub confirmation: u8,
-    pub message_type: OneOctet,
-    pub reference: u16,
-}
+use said::Note;
+use said::Pen;
+use said::Say;
 
 // The octets of src, from the place at on.
 fn put(out: &mut [u8], at: usize, src: &[u8]) -> usize
@@ -84,13 +73,6 @@ pub(crate) fn put_kept(out: &mut [u8], pen: Pen, kept: [u8; 554], n: usize) -> P
     }
 }
 
-// A bit as a number: the multiShot bit of a note, the confirmation that a request's frame has.
-pub(crate) fn bit_of(b: bool) -> u8
-    ensures { λ r. ⌜ (r ≡ weight b 1) × (r ≤ 1) ⌝ }
-{
-    if b { 1 } else { 0 }
-}
-
 // How many octets a note takes.
 fn note_size(message_type: OneOctet, letters: usize) -> usize
     requires { ⌜ letters ≤ 32 ⌝ }
@@ -107,7 +89,7 @@ fn put_note(out: &mut [u8], at: usize, note: Note, name: [u8; 32], letters: usiz
     requires { ⌜ (note .confirmation ≤ 4) × ((2 ≤ note .confirmation) × ((letters ≤ 32) × (at + 6 + letters ≤ length (now out)))) ⌝ }
     ensures { λ r. ⌜ Put (now (out .entry)) at (noteOctets note (take letters name)) (now (out .exit)) r ⌝ }
 {
-    let shot = bit_of(note.multi_shot);
+    let shot = said::bit_of(note.multi_shot);
     let reference = note.reference;
     let high = (reference / 256) as u8;
     let low = (reference % 256) as u8;
@@ -143,13 +125,6 @@ pub(crate) fn put_noted(
         at: used,
         lines: pen.lines + 1,
     }
-}
-
-// What all the answers of one event say beside the identifier.
-pub(crate) struct Say {
-    pub result: u8,
-    pub multi_shot: bool,
-    pub confirmation: u8,
 }
 
 // Line 22 with an answer made locally.

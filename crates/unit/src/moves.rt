@@ -2,38 +2,11 @@
 ghost use mathlib.Core.Path.{_≡_};
 ghost use Prim.Native.Nat.{_≤_, _<_};
 ghost use lib.ListN.{length};
-ghost use Rattle.book.specs.Book.{same-terms, settled};
 ghost use Rattle.book.specs.Picture.{padded};
-ghost use Rattle.unit.specs.Moves.{advanced, rested, entered, cleared, keeping, appended, removed};
+ghost use Rattle.turn_laws.specs.Moves.{advanced, rested, entered, cleared, keeping, appended, removed};
 use book::Terms;
 use book::Unit;
 use state::waiting;
-
-// RER 0 counts as low.
-pub(crate) fn settle(t: Terms) -> Terms
-    ensures { λ r. ⌜ r ≡ settled t ⌝ }
-{
-    if t.rer == 0 {
-        return Terms {
-            class: t.class,
-            priority: t.priority,
-            rer: 1,
-        };
-    }
-    t
-}
-
-pub(crate) fn alike(a: Terms, b: Terms) -> bool
-    ensures { λ r. ⌜ r ≡ same-terms a b ⌝ }
-{
-    if a.class == b.class {
-        if a.priority == b.priority {
-            return a.rer == b.rer;
-        }
-        return false;
-    }
-    false
-}
 
 // The same dialogue, in another state or at another tick.
 pub(crate) fn at_elapsed(u: Unit, state: u8, elapsed: u16) -> Unit

@@ -10,11 +10,10 @@ ghost use Rattle.book.specs.View.{readingIn};
 ghost use Rattle.book.specs.Picture.{stateOf};
 ghost use Rattle.book.specs.Step.{Turned};
 ghost use Rattle.book.specs.Ready.{Ready, Reads};
-ghost use Rattle.unit.specs.Moves.{joined};
-ghost use Rattle.unit.specs.Saying.{msgAt};
+ghost use Rattle.turn_laws.specs.Moves.{joined};
+ghost use Rattle.said.specs.Saying.{msgAt};
 use crate::finished;
 use crate::lines;
-use crate::lines::Pen;
 use crate::moves;
 use crate::refuse;
 use book::Found;
@@ -23,6 +22,7 @@ use book::Turn;
 use book::Unit;
 use frame::Header;
 use frame::Reading;
+use said::Pen;
 use state::turns;
 use state::waiting;
 
@@ -45,7 +45,7 @@ fn on_idle_single(u: Unit, a: Terms, frame: &[u8], h: Header, out: &mut [u8]) ->
     requires { ⌜ (Ready u) × ((u .state ≡ 0) × ((Reads (now frame) h 0) × ((h .confirmation < 2) × (1024 ≤ length (now out))))) ⌝ }
     ensures { λ r. ⌜ Turned u (on-single a (msgAt (now (frame .entry)) h) (stateOf u)) (now (out .entry)) r (now (out .exit)) ⌝ }
 {
-    let t = moves::settle(a);
+    let t = said::settle(a);
     let head = [0x30, t.class, t.priority, t.rer];
     let done = lines::put_framed(out, Pen { at: 0, lines: 0 }, &head, frame, h.end);
     let v = moves::enter(u, 1, t);
@@ -58,7 +58,7 @@ fn on_idle_multi(u: Unit, a: Terms, frame: &[u8], h: Header, out: &mut [u8]) -> 
     requires { ⌜ (Ready u) × ((u .state ≡ 0) × ((Reads (now frame) h 0) × ((h .confirmation < 2) × (1024 ≤ length (now out))))) ⌝ }
     ensures { λ r. ⌜ Turned u (on-multi (bar a (msgAt (now (frame .entry)) h) (stateOf u)) a (msgAt (now (frame .entry)) h) (stateOf u)) (now (out .entry)) r (now (out .exit)) ⌝ }
 {
-    let t = moves::settle(a);
+    let t = said::settle(a);
     let head = [0x30, t.class, t.priority, t.rer];
     let done = lines::put_line(out, Pen { at: 0, lines: 0 }, &head);
     let v = moves::enter(u, 2, t);
@@ -105,9 +105,9 @@ fn on_next(u: Unit, a: Terms, frame: &[u8], h: Header, out: &mut [u8]) -> Turn
     requires { ⌜ (Ready u) × ((u .state ≡ 4) × ((Reads (now frame) h 0) × ((h .confirmation < 2) × (1024 ≤ length (now out))))) ⌝ }
     ensures { λ r. ⌜ Turned u (on-multi (bar a (msgAt (now (frame .entry)) h) (stateOf u)) a (msgAt (now (frame .entry)) h) (stateOf u)) (now (out .entry)) r (now (out .exit)) ⌝ }
 {
-    let t = moves::settle(a);
+    let t = said::settle(a);
     let own = u.terms;
-    if !moves::alike(t, own) {
+    if !said::alike(t, own) {
         return refuse(u, 3);
     }
     let c = h.confirmation;
@@ -160,7 +160,7 @@ pub(crate) fn on_request(u: Unit, confirmed: bool, a: Terms, frame: &[u8], out: 
         return refuse(u, 2);
     }
     let c = header.confirmation;
-    if c != lines::bit_of(confirmed) {
+    if c != said::bit_of(confirmed) {
         return refuse(u, 2);
     }
     on_vetted(u, a, frame, header, out)

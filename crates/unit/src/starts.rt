@@ -11,19 +11,19 @@ ghost use Rattle.book.specs.Turns.{takes};
 ghost use Rattle.book.specs.Step.{Turned, orNothing};
 ghost use Rattle.book.specs.Ready.{Ready, Reads};
 ghost use Rattle.book.specs.View.{frameAt};
-ghost use Rattle.unit.specs.Saying.{greeted};
+ghost use Rattle.said.specs.Saying.{greeted};
 use crate::data;
 use crate::ends;
 use crate::finished;
 use crate::lines;
-use crate::lines::Pen;
-use crate::lines::Say;
 use crate::moves;
 use book::Terms;
 use book::Turn;
 use book::Unit;
 use frame::Header;
 use frame::Reading;
+use said::Pen;
+use said::Say;
 
 // A valid frame that is not expected here: 35 reason 10, and the unit stays.
 fn cut_off(u: Unit, n: usize, out: &mut [u8]) -> Turn
@@ -50,7 +50,7 @@ fn on_single_shot(u: Unit, a: Terms, frame: &[u8], h: Header, n: usize, out: &mu
         return finished(u, done);
     }
     let given = data::put_given(out, pen, 0x21, a, frame, h.end);
-    let note = data::ack_of(frame, h);
+    let note = said::ack_of(frame, h);
     let head = [0x31, 1];
     let name = u.name;
     let done = lines::put_noted(out, given, &head, note, name, u.letters);

@@ -2,8 +2,9 @@
 use mathlib.Core.Path.{refl, _∙_}
 use denote.Ref.{now}
 use Rattle.book.specs.Step.{does}
-use Rattle.unit.proofs.Gave.{refuses, turned-as}
-use Rattle.unit.proofs.EntryLaws.{does-as, does-transfer, does-start, does-reply, does-data, does-malformed, takes-as, takes-dropped}
+use Rattle.turn_laws.proofs.Gave.{refuses, turned-as}
+use Rattle.unit.proofs.EntryLaws.{takes-as, takes-dropped}
+use Rattle.turn_laws.proofs.StepLaws.{does-as, does-transfer, does-start, does-reply, does-data, does-malformed}
 use borrow.Author.Needs.{needs}
 use Rattle.unit.proofs.handle.Statement.{statement}
 use Rattle.unit.proofs.handle.Tie as tie

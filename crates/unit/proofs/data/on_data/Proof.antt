@@ -1,7 +1,7 @@
 -- `unit::data::on_data` meets its contract. Closed by laws of Views and DataLaws, one for each way out.
 use denote.Ref.{now}
 use Rattle.book.proofs.Views.{reads-made}
-use Rattle.unit.proofs.DataLaws.{heard-bad, heard-good}
+use Rattle.turn_laws.proofs.DataLaws.{heard-bad, heard-good}
 use native.Mathlib.Omega.{arith}
 use borrow.Author.Needs.{needs}
 use Rattle.unit.proofs.data.on_data.Statement.{statement}

@@ -1,5 +1,5 @@
 -- `unit::data::on_note` meets its contract. Closed by laws of DataLaws, one for each way out.
-use Rattle.unit.proofs.DataLaws.{heard-note-none, heard-note-some, note-remove}
+use Rattle.turn_laws.proofs.DataLaws.{heard-note-none, heard-note-some, note-remove}
 use native.Mathlib.Omega.{arith}
 use borrow.Author.Needs.{needs}
 use Rattle.unit.proofs.data.on_note.Statement.{statement}

@@ -1,5 +1,5 @@
 -- `unit::data::on_plain` meets its contract. Closed by laws of DataLaws, one for each way out.
-use Rattle.unit.proofs.DataLaws.{heard-plain}
+use Rattle.turn_laws.proofs.DataLaws.{heard-plain}
 use borrow.Author.Needs.{needs}
 use Rattle.unit.proofs.data.on_plain.Statement.{statement}
 use Rattle.unit.proofs.data.on_plain.Tie as tie

@@ -1,5 +1,5 @@
 -- `unit::data::on_sure` meets its contract. Closed by laws of DataLaws, one for each way out.
-use Rattle.unit.proofs.DataLaws.{heard-sure-assoc, heard-sure-ending}
+use Rattle.turn_laws.proofs.DataLaws.{heard-sure-assoc, heard-sure-ending}
 use native.Mathlib.Omega.{arith}
 use borrow.Author.Needs.{needs}
 use Rattle.unit.proofs.data.on_sure.Statement.{statement}

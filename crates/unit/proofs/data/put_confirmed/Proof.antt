@@ -3,7 +3,7 @@ use mathlib.Core.Path.{ap}
 use mathlib.Core.List.{[], _∷_}
 use denote.Ref.{now}
 use Rattle.frame.specs.Stripping.{bareTo}
-use Rattle.unit.proofs.PenLaws.{laid-as}
+use Rattle.said.proofs.PenLaws.{laid-as}
 use borrow.Author.Needs.{needs}
 use Rattle.unit.proofs.data.put_confirmed.Statement.{statement}
 use Rattle.unit.proofs.data.put_confirmed.Tie as tie

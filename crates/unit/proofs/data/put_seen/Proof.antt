@@ -1,5 +1,5 @@
 -- `unit::data::put_seen` meets its contract. Closed by laws of DataLaws, one for each way out.
-use Rattle.unit.proofs.DataLaws.{seen-none, seen-some}
+use Rattle.turn_laws.proofs.DataLaws.{seen-none, seen-some}
 use borrow.Author.Needs.{needs}
 use Rattle.unit.proofs.data.put_seen.Statement.{statement}
 use Rattle.unit.proofs.data.put_seen.Tie as tie

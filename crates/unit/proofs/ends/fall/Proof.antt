@@ -1,5 +1,5 @@
 -- `unit::ends::fall` meets its contract. Closed by laws of EndLaws, one for each way out.
-use Rattle.unit.proofs.EndLaws.{fell}
+use Rattle.turn_laws.proofs.EndLaws.{fell}
 use native.Mathlib.Omega.{arith}
 use borrow.Author.Needs.{needs}
 use Rattle.unit.proofs.ends.fall.Statement.{statement}

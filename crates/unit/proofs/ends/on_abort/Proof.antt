@@ -1,5 +1,5 @@
 -- `unit::ends::on_abort` meets its contract. Closed by laws of EndLaws, one for each way out.
-use Rattle.unit.proofs.EndLaws.{aborted}
+use Rattle.turn_laws.proofs.EndLaws.{aborted}
 use borrow.Author.Needs.{needs}
 use Rattle.unit.proofs.ends.on_abort.Statement.{statement}
 use Rattle.unit.proofs.ends.on_abort.Tie as tie

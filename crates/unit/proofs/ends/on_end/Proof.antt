@@ -1,5 +1,5 @@
 -- `unit::ends::on_end` meets its contract. Closed by laws of EndLaws, one for each way out.
-use Rattle.unit.proofs.EndLaws.{asked-end}
+use Rattle.turn_laws.proofs.EndLaws.{asked-end}
 use borrow.Author.Needs.{needs}
 use Rattle.unit.proofs.ends.on_end.Statement.{statement}
 use Rattle.unit.proofs.ends.on_end.Tie as tie

@@ -1,5 +1,5 @@
 -- `unit::ends::on_end_answered` meets its contract. Closed by laws of EndLaws, one for each way out.
-use Rattle.unit.proofs.EndLaws.{agreed, declined}
+use Rattle.turn_laws.proofs.EndLaws.{agreed, declined}
 use borrow.Author.Needs.{needs}
 use Rattle.unit.proofs.ends.on_end_answered.Statement.{statement}
 use Rattle.unit.proofs.ends.on_end_answered.Tie as tie

@@ -1,5 +1,5 @@
 -- `unit::ends::on_end_asked` meets its contract. Closed by laws of EndLaws, one for each way out.
-use Rattle.unit.proofs.EndLaws.{was-ended}
+use Rattle.turn_laws.proofs.EndLaws.{was-ended}
 use native.Mathlib.Omega.{arith}
 use borrow.Author.Needs.{needs}
 use Rattle.unit.proofs.ends.on_end_asked.Statement.{statement}

@@ -1,5 +1,5 @@
 -- `unit::ends::on_tick` meets its contract. Closed by laws of EndLaws, one for each way out.
-use Rattle.unit.proofs.EndLaws.{ticked-idle, ticked-early, ticked-end, ticked-fall}
+use Rattle.turn_laws.proofs.EndLaws.{ticked-idle, ticked-early, ticked-end, ticked-fall}
 use native.Mathlib.Omega.{arith}
 use borrow.Author.Needs.{needs}
 use Rattle.unit.proofs.ends.on_tick.Statement.{statement}

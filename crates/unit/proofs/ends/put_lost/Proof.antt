@@ -1,5 +1,5 @@
 -- `unit::ends::put_lost` meets its contract. Closed by laws of EndLaws, one for each way out.
-use Rattle.unit.proofs.EndLaws.{lost-put}
+use Rattle.turn_laws.proofs.EndLaws.{lost-put}
 use native.Mathlib.Omega.{arith}
 use borrow.Author.Needs.{needs}
 use Rattle.unit.proofs.ends.put_lost.Statement.{statement}

@@ -1,5 +1,5 @@
 -- `unit::ends::put_uncertain` meets its contract. Closed by laws of Gave, one for each way out.
-use Rattle.unit.proofs.Gave.{doubts-put}
+use Rattle.turn_laws.proofs.Gave.{doubts-put}
 use native.Mathlib.Omega.{arith}
 use borrow.Author.Needs.{needs}
 use Rattle.unit.proofs.ends.put_uncertain.Statement.{statement}

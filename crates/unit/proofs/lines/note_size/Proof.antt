@@ -1,5 +1,5 @@
 -- `unit::lines::note_size` meets its contract. Closed by laws of PenLaws, one for each way out.
-use Rattle.unit.proofs.PenLaws.{size-none, size-some}
+use Rattle.said.proofs.PenLaws.{size-none, size-some}
 use borrow.Author.Needs.{needs}
 use Rattle.unit.proofs.lines.note_size.Statement.{statement}
 use Rattle.unit.proofs.lines.note_size.Tie as tie

@@ -3,9 +3,9 @@ use Prim.Native.Nat.{_≤_, _-_, _+_, _*_}
 use mathlib.Core.Path.{_≡_, refl}
 use mathlib.Core.List.{map}
 use lib.ListN.{length, take}
-use Rattle.unit.specs.Pens.{Laid}
-use Rattle.unit.specs.Notes.{answerLine}
-use Rattle.unit.proofs.PenLaws.{laid-none, laid-as, and-then, answers-more}
+use Rattle.said.specs.Pens.{Laid}
+use Rattle.said.specs.Notes.{answerLine}
+use Rattle.said.proofs.PenLaws.{laid-none, laid-as, and-then, answers-more}
 use native.Mathlib.Omega.{arith}
 use borrow.Author.Needs.{needs}
 use Rattle.unit.proofs.lines.put_answers.Statement.{statement}

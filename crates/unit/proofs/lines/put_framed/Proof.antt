@@ -1,5 +1,5 @@
 -- `unit::lines::put_framed` meets its contract. Closed by laws of PenLaws, one for each way out.
-use Rattle.unit.proofs.PenLaws.{line-bare}
+use Rattle.said.proofs.PenLaws.{line-bare}
 use borrow.Author.Needs.{needs}
 use Rattle.unit.proofs.lines.put_framed.Statement.{statement}
 use Rattle.unit.proofs.lines.put_framed.Tie as tie

@@ -1,5 +1,5 @@
 -- `unit::lines::put_head` meets its contract. Closed by laws of PenLaws, one for each way out.
-use Rattle.unit.proofs.PenLaws.{head-put}
+use Rattle.said.proofs.PenLaws.{head-put}
 use borrow.Author.Needs.{needs}
 use Rattle.unit.proofs.lines.put_head.Statement.{statement}
 use Rattle.unit.proofs.lines.put_head.Tie as tie

@@ -3,7 +3,7 @@ use mathlib.Core.Path.{sym}
 use mathlib.Core.List.{[], _∷_}
 use lib.ListN.{take}
 use lib.Seq.{length-take-le}
-use Rattle.unit.proofs.PenLaws.{line-made}
+use Rattle.said.proofs.PenLaws.{line-made}
 use native.Mathlib.Omega.{arith}
 use borrow.Author.Needs.{needs}
 use Rattle.unit.proofs.lines.put_kept.Statement.{statement}

@@ -1,5 +1,5 @@
 -- `unit::lines::put_line` meets its contract. Closed by laws of PenLaws, one for each way out.
-use Rattle.unit.proofs.PenLaws.{line-head}
+use Rattle.said.proofs.PenLaws.{line-head}
 use borrow.Author.Needs.{needs}
 use Rattle.unit.proofs.lines.put_line.Statement.{statement}
 use Rattle.unit.proofs.lines.put_line.Tie as tie

@@ -2,7 +2,7 @@
 use mathlib.Core.Path.{sym}
 use lib.ListN.{take}
 use lib.Seq.{length-take-le}
-use Rattle.unit.proofs.PenLaws.{note-plain, note-typed}
+use Rattle.said.proofs.PenLaws.{note-plain, note-typed}
 use native.Mathlib.Omega.{arith}
 use borrow.Author.Needs.{needs}
 use Rattle.unit.proofs.lines.put_note.Statement.{statement}

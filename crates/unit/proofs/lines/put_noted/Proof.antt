@@ -6,7 +6,7 @@ use lib.ListN.{length, take}
 use lib.Seq.{length-take-le}
 use Rattle.frame.specs.Encoding.{typeOctets}
 use Rattle.frame.specs.Decoding.{octetIn}
-use Rattle.unit.proofs.PenLaws.{line-note, note-length}
+use Rattle.said.proofs.PenLaws.{line-note, note-length}
 use native.Mathlib.Omega.{arith}
 use borrow.Author.Needs.{needs}
 use Rattle.unit.proofs.lines.put_noted.Statement.{statement}

@@ -1,6 +1,6 @@
 -- `unit::moves::at_elapsed` meets its contract. Closed by `search needs`.
 use mathlib.Core.Path.{refl}
-use Rattle.unit.specs.Moves.{advanced}
+use Rattle.turn_laws.specs.Moves.{advanced}
 use Rattle.unit.proofs.moves.at_elapsed.Statement.{statement}
 use Rattle.unit.proofs.moves.at_elapsed.Tie as tie
 

@@ -1,6 +1,6 @@
 -- `unit::moves::enter` meets its contract. Closed by `search needs`.
 use mathlib.Core.Path.{refl}
-use Rattle.unit.specs.Moves.{entered}
+use Rattle.turn_laws.specs.Moves.{entered}
 use Rattle.unit.proofs.moves.enter.Statement.{statement}
 use Rattle.unit.proofs.moves.enter.Tie as tie
 

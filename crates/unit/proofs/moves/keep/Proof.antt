@@ -1,5 +1,5 @@
 -- `unit::moves::keep` meets its contract. Closed by `search needs`.
-use Rattle.unit.specs.Moves.{keeping}
+use Rattle.turn_laws.specs.Moves.{keeping}
 use borrow.Author.Needs.{needs}
 use Rattle.unit.proofs.moves.keep.Statement.{statement}
 use Rattle.unit.proofs.moves.keep.Tie as tie

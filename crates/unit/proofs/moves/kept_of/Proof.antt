@@ -1,7 +1,7 @@
 -- `unit::moves::kept_of` meets its contract: a frame put at the front of an array of 0 (Moved: `padded-sets`).
 use mathlib.Core.Path.{_∙_}
 use denote.Ref.{now}
-use Rattle.unit.proofs.Moved.{padded-sets}
+use Rattle.turn_laws.proofs.Moved.{padded-sets}
 use borrow.Author.Needs.{needs}
 use Rattle.unit.proofs.moves.kept_of.Statement.{statement}
 use Rattle.unit.proofs.moves.kept_of.Tie as tie

@@ -1,5 +1,5 @@
 -- `unit::moves::remove` meets its contract. Closed by `search needs`.
-use Rattle.unit.specs.Moves.{waitingWith}
+use Rattle.turn_laws.specs.Moves.{waitingWith}
 use borrow.Author.Needs.{needs}
 use Rattle.unit.proofs.moves.remove.Statement.{statement}
 use Rattle.unit.proofs.moves.remove.Tie as tie

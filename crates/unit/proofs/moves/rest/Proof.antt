@@ -1,6 +1,6 @@
 -- `unit::moves::rest` meets its contract. Closed by `search needs`.
 use borrow.Author.Tests.{eq-eqb, ne-eqb}
-use Rattle.unit.specs.Moves.{rested, advanced}
+use Rattle.turn_laws.specs.Moves.{rested, advanced}
 use borrow.Author.Needs.{needs}
 use Rattle.unit.proofs.moves.rest.Statement.{statement}
 use Rattle.unit.proofs.moves.rest.Tie as tie

@@ -1,6 +1,6 @@
 -- `unit::moves::to_idle` meets its contract. Closed by `search needs`.
 use mathlib.Core.Path.{refl}
-use Rattle.unit.specs.Moves.{cleared}
+use Rattle.turn_laws.specs.Moves.{cleared}
 use Rattle.unit.proofs.moves.to_idle.Statement.{statement}
 use Rattle.unit.proofs.moves.to_idle.Tie as tie
 

@@ -1,6 +1,6 @@
 -- `unit::requests::join` meets its contract. Closed by laws of RequestLaws, one for each way out.
 use denote.Ref.{now}
-use Rattle.unit.proofs.RequestLaws.{join-sure, join-plain}
+use Rattle.turn_laws.proofs.RequestLaws.{join-sure, join-plain}
 use borrow.Author.Needs.{needs}
 use Rattle.unit.proofs.requests.join.Statement.{statement}
 use Rattle.unit.proofs.requests.join.Tie as tie

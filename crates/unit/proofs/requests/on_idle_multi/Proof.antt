@@ -1,6 +1,6 @@
 -- `unit::requests::on_idle_multi` meets its contract. Closed by laws of RequestLaws, one for each way out.
 use denote.Ref.{now}
-use Rattle.unit.proofs.RequestLaws.{asked-multi, frame-short, kept-room}
+use Rattle.turn_laws.proofs.RequestLaws.{asked-multi, frame-short, kept-room}
 use borrow.Author.Needs.{needs}
 use Rattle.unit.proofs.requests.on_idle_multi.Statement.{statement}
 use Rattle.unit.proofs.requests.on_idle_multi.Tie as tie

@@ -1,5 +1,5 @@
 -- `unit::requests::on_idle_single` meets its contract. Closed by laws of RequestLaws, one for each way out.
-use Rattle.unit.proofs.RequestLaws.{asked-single, idle-room}
+use Rattle.turn_laws.proofs.RequestLaws.{asked-single, idle-room}
 use borrow.Author.Needs.{needs}
 use Rattle.unit.proofs.requests.on_idle_single.Statement.{statement}
 use Rattle.unit.proofs.requests.on_idle_single.Tie as tie

@@ -1,5 +1,5 @@
 -- `unit::requests::on_multi` meets its contract. Closed by laws of RequestLaws, one for each way out.
-use Rattle.unit.proofs.RequestLaws.{next-multi}
+use Rattle.turn_laws.proofs.RequestLaws.{next-multi}
 use borrow.Author.Needs.{needs}
 use Rattle.unit.proofs.requests.on_multi.Statement.{statement}
 use Rattle.unit.proofs.requests.on_multi.Tie as tie

@@ -1,6 +1,6 @@
 -- `unit::requests::on_next` meets its contract. Closed by laws of Gave and RequestLaws, one for each way out.
-use Rattle.unit.proofs.Gave.{refuses}
-use Rattle.unit.proofs.RequestLaws.{ask-3, same-made}
+use Rattle.turn_laws.proofs.Gave.{refuses}
+use Rattle.turn_laws.proofs.RequestLaws.{ask-3, same-made}
 use native.Mathlib.Omega.{arith}
 use borrow.Author.Needs.{needs}
 use Rattle.unit.proofs.requests.on_next.Statement.{statement}

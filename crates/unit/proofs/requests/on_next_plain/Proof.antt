@@ -1,5 +1,5 @@
 -- `unit::requests::on_next_plain` meets its contract. Closed by laws of RequestLaws, one for each way out.
-use Rattle.unit.proofs.RequestLaws.{asked-next-plain}
+use Rattle.turn_laws.proofs.RequestLaws.{asked-next-plain}
 use borrow.Author.Needs.{needs}
 use Rattle.unit.proofs.requests.on_next_plain.Statement.{statement}
 use Rattle.unit.proofs.requests.on_next_plain.Tie as tie

@@ -1,8 +1,8 @@
 -- `unit::requests::on_next_sure` meets its contract. Closed by laws of Gave and RequestLaws, one for each way out.
 use mathlib.Core.Path.{ap}
-use Rattle.unit.specs.Moves.{advanced}
-use Rattle.unit.proofs.Gave.{refuses}
-use Rattle.unit.proofs.RequestLaws.{ask-4, ask-5, asked-next-sure}
+use Rattle.turn_laws.specs.Moves.{advanced}
+use Rattle.turn_laws.proofs.Gave.{refuses}
+use Rattle.turn_laws.proofs.RequestLaws.{ask-4, ask-5, asked-next-sure}
 use native.Mathlib.Omega.{arith}
 use borrow.Author.Needs.{needs}
 use Rattle.unit.proofs.requests.on_next_sure.Statement.{statement}

@@ -1,7 +1,7 @@
 -- `unit::requests::on_request` meets its contract. Closed by laws of Gave and RequestLaws, one for each way out.
 use denote.Ref.{now}
-use Rattle.unit.proofs.Gave.{refuses}
-use Rattle.unit.proofs.RequestLaws.{ask-faulty, ask-extended, ask-other, ask-vetted, reads-zero}
+use Rattle.turn_laws.proofs.Gave.{refuses}
+use Rattle.turn_laws.proofs.RequestLaws.{ask-faulty, ask-extended, ask-other, ask-vetted, reads-zero}
 use native.Mathlib.Omega.{arith}
 use borrow.Author.Needs.{needs}
 use Rattle.unit.proofs.requests.on_request.Statement.{statement}

@@ -1,8 +1,8 @@
 -- `unit::requests::on_vetted` meets its contract. Closed by laws of Gave and RequestLaws, one for each way out.
 use mathlib.Core.Path.{sym, _∙_}
 use denote.Ref.{now}
-use Rattle.unit.proofs.Gave.{refuses}
-use Rattle.unit.proofs.RequestLaws.{shot-multi, shot-single, multi-1, single-1, idle-single}
+use Rattle.turn_laws.proofs.Gave.{refuses}
+use Rattle.turn_laws.proofs.RequestLaws.{shot-multi, shot-single, multi-1, single-1, idle-single}
 use borrow.Author.Needs.{needs}
 use Rattle.unit.proofs.requests.on_vetted.Statement.{statement}
 use Rattle.unit.proofs.requests.on_vetted.Tie as tie

@@ -1,5 +1,5 @@
 -- `unit::starts::cut_off` meets its contract. Closed by laws of StartLaws, one for each way out.
-use Rattle.unit.proofs.StartLaws.{cut-made}
+use Rattle.turn_laws.proofs.StartLaws.{cut-made}
 use borrow.Author.Needs.{needs}
 use Rattle.unit.proofs.starts.cut_off.Statement.{statement}
 use Rattle.unit.proofs.starts.cut_off.Tie as tie

@@ -1,5 +1,5 @@
 -- `unit::starts::on_answered` meets its contract. Closed by laws of StartLaws, one for each way out.
-use Rattle.unit.proofs.StartLaws.{answered}
+use Rattle.turn_laws.proofs.StartLaws.{answered}
 use native.Mathlib.Omega.{arith}
 use borrow.Author.Needs.{needs}
 use Rattle.unit.proofs.starts.on_answered.Statement.{statement}

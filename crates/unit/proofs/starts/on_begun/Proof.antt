@@ -1,5 +1,5 @@
 -- `unit::starts::on_begun` meets its contract. Closed by laws of StartLaws, one for each way out.
-use Rattle.unit.proofs.StartLaws.{began}
+use Rattle.turn_laws.proofs.StartLaws.{began}
 use borrow.Author.Needs.{needs}
 use Rattle.unit.proofs.starts.on_begun.Statement.{statement}
 use Rattle.unit.proofs.starts.on_begun.Tie as tie

@@ -1,5 +1,5 @@
 -- `unit::starts::on_faulty_start` meets its contract. Closed by laws of StartLaws, one for each way out.
-use Rattle.unit.proofs.StartLaws.{fault-made}
+use Rattle.turn_laws.proofs.StartLaws.{fault-made}
 use borrow.Author.Needs.{needs}
 use Rattle.unit.proofs.starts.on_faulty_start.Statement.{statement}
 use Rattle.unit.proofs.starts.on_faulty_start.Tie as tie

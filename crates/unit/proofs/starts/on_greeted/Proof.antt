@@ -1,7 +1,7 @@
 -- `unit::starts::on_greeted` meets its contract. Closed by laws of Gave and StartLaws, one for each way out.
 use denote.Ref.{now}
-use Rattle.unit.proofs.Gave.{turned-as}
-use Rattle.unit.proofs.StartLaws.{greeted-note, greeted-multi}
+use Rattle.turn_laws.proofs.Gave.{turned-as}
+use Rattle.turn_laws.proofs.StartLaws.{greeted-note, greeted-multi}
 use native.Mathlib.Omega.{arith}
 use borrow.Author.Needs.{needs}
 use Rattle.unit.proofs.starts.on_greeted.Statement.{statement}

@@ -1,6 +1,6 @@
 -- `unit::starts::on_multi_answer` meets its contract. Closed by laws of StartLaws, one for each way out.
 use denote.Ref.{now}
-use Rattle.unit.proofs.StartLaws.{multi-begun, multi-octets, multi-rejected}
+use Rattle.turn_laws.proofs.StartLaws.{multi-begun, multi-octets, multi-rejected}
 use borrow.Author.Needs.{needs}
 use Rattle.unit.proofs.starts.on_multi_answer.Statement.{statement}
 use Rattle.unit.proofs.starts.on_multi_answer.Tie as tie

@@ -1,5 +1,5 @@
 -- `unit::starts::on_opened` meets its contract. Closed by laws of StartLaws, one for each way out.
-use Rattle.unit.proofs.StartLaws.{opened}
+use Rattle.turn_laws.proofs.StartLaws.{opened}
 use borrow.Author.Needs.{needs}
 use Rattle.unit.proofs.starts.on_opened.Statement.{statement}
 use Rattle.unit.proofs.starts.on_opened.Tie as tie

@@ -1,6 +1,6 @@
 -- `unit::starts::on_reply` meets its contract. Closed by laws of StartLaws, one for each way out.
 use denote.Ref.{now}
-use Rattle.unit.proofs.StartLaws.{reply-single, single-accepted, single-rejected}
+use Rattle.turn_laws.proofs.StartLaws.{reply-single, single-accepted, single-rejected}
 use borrow.Author.Needs.{needs}
 use Rattle.unit.proofs.starts.on_reply.Statement.{statement}
 use Rattle.unit.proofs.starts.on_reply.Tie as tie

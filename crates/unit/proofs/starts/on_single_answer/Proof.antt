@@ -1,7 +1,7 @@
 -- `unit::starts::on_single_answer` meets its contract. Closed by laws of Views and StartLaws, one for each way out.
 use denote.Ref.{now}
 use Rattle.book.proofs.Views.{reads-made}
-use Rattle.unit.proofs.StartLaws.{nobody-waits, answer-nothing, answer-faulty, answer-whole}
+use Rattle.turn_laws.proofs.StartLaws.{nobody-waits, answer-nothing, answer-faulty, answer-whole}
 use native.Mathlib.Omega.{arith}
 use borrow.Author.Needs.{needs}
 use Rattle.unit.proofs.starts.on_single_answer.Statement.{statement}

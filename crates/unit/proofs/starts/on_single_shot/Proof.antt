@@ -1,5 +1,5 @@
 -- `unit::starts::on_single_shot` meets its contract. Closed by laws of StartLaws, one for each way out.
-use Rattle.unit.proofs.StartLaws.{shot-plain, shot-sure}
+use Rattle.turn_laws.proofs.StartLaws.{shot-plain, shot-sure}
 use native.Mathlib.Omega.{arith}
 use borrow.Author.Needs.{needs}
 use Rattle.unit.proofs.starts.on_single_shot.Statement.{statement}

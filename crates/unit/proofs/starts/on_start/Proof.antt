@@ -1,7 +1,7 @@
 -- `unit::starts::on_start` meets its contract. Closed by laws of Views and StartLaws, one for each way out.
 use denote.Ref.{now}
 use Rattle.book.proofs.Views.{reads-made}
-use Rattle.unit.proofs.StartLaws.{start-idle, start-none, start-bad, start-good}
+use Rattle.turn_laws.proofs.StartLaws.{start-idle, start-none, start-bad, start-good}
 use native.Mathlib.Omega.{arith}
 use borrow.Author.Needs.{needs}
 use Rattle.unit.proofs.starts.on_start.Statement.{statement}

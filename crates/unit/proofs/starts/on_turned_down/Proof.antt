@@ -1,5 +1,5 @@
 -- `unit::starts::on_turned_down` meets its contract. Closed by laws of StartLaws, one for each way out.
-use Rattle.unit.proofs.StartLaws.{turned-down}
+use Rattle.turn_laws.proofs.StartLaws.{turned-down}
 use native.Mathlib.Omega.{arith}
 use borrow.Author.Needs.{needs}
 use Rattle.unit.proofs.starts.on_turned_down.Statement.{statement}

@@ -1,5 +1,5 @@
 -- `unit::starts::on_unanswered` meets its contract. Closed by laws of StartLaws, one for each way out.
-use Rattle.unit.proofs.StartLaws.{unanswered}
+use Rattle.turn_laws.proofs.StartLaws.{unanswered}
 use borrow.Author.Needs.{needs}
 use Rattle.unit.proofs.starts.on_unanswered.Statement.{statement}
 use Rattle.unit.proofs.starts.on_unanswered.Tie as tie

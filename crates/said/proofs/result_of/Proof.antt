@@ -1,7 +1,7 @@
--- `unit::data::result_of` meets its contract. Closed by `search needs`.
+-- `said::result_of` meets its contract. Closed by `search needs`.
 use borrow.Author.Tests.{eq-eqb, ne-eqb}
-use Rattle.unit.proofs.data.result_of.Statement.{statement}
-use Rattle.unit.proofs.data.result_of.Tie as tie
+use Rattle.said.proofs.result_of.Statement.{statement}
+use Rattle.said.proofs.result_of.Tie as tie
 
 returns : tie.Need-returns
 returns c = simp (eq-eqb _ _ (c .if1 .taken))

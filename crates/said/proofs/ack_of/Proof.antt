@@ -1,9 +1,9 @@
--- `unit::data::ack_of` meets its contract. Closed by laws of DataLaws, one for each way out.
+-- `said::ack_of` meets its contract. Closed by laws of SmallLaws, one for each way out.
 use denote.Ref.{now}
-use Rattle.unit.proofs.DataLaws.{ack-made}
+use Rattle.said.proofs.SmallLaws.{ack-made}
 use borrow.Author.Needs.{needs}
-use Rattle.unit.proofs.data.ack_of.Statement.{statement}
-use Rattle.unit.proofs.data.ack_of.Tie as tie
+use Rattle.said.proofs.ack_of.Statement.{statement}
+use Rattle.said.proofs.ack_of.Tie as tie
 
 one-octet-requires : tie.Need-one-octet-requires
 one-octet-requires c κs = search needs

@@ -37,36 +37,12 @@ use Rattle.book.specs.Picture.{picture, setupOf, stateOf, idsIn, msgIn}
 use Rattle.book.specs.Step.{Turned, turnOf}
 use Rattle.book.specs.Ready.{Ready, Reads}
 use Rattle.book.proofs.Views.{reads-made, know, view-octets, faulty-reading, whole-reading, plainIn, sureIn, noteIn, plain-view, sure-view, note-view}
-use Rattle.unit.specs.declared.lines.Pen.{Pen}
-use Rattle.unit.specs.Pens.{Laid}
-use Rattle.unit.specs.Moves.{advanced, entered, keeping, appended, joined}
-use Rattle.unit.specs.Saying.{said, fresh, msgAt}
-use Rattle.unit.proofs.Moved.{not-taken, number-is, numberOf, ids-are, count-is, fresh-is, sent-is, opened-single, opened-multi}
-use Rattle.unit.proofs.Gave.{Goes, went, refuses, turned-as}
-
--- ---- terms
-
-module _ (t : Terms) where
-  pub settle-zero : t .rer ≡ 0 → _≡_ {A = Terms} (record { class = t .class; priority = t .priority; rer = 1 }) (settled t)
-  unfolding settled
-  settle-zero e = rw (eq-eqb (t .rer) 0 e)
-
-  pub settle-other : (t .rer ≡ 0 → ⊥) → t ≡ settled t
-  unfolding settled
-  settle-other e = rw (ne-eqb (t .rer) 0 e)
-
-module _ (a b : Terms) where
-  pub alike-class : (a .class ≡ b .class → ⊥) → false ≡ same-terms a b
-  unfolding same-terms
-  alike-class n = rw (ne-eqb (a .class) (b .class) n)
-
-  pub alike-priority : a .class ≡ b .class → (a .priority ≡ b .priority → ⊥) → false ≡ same-terms a b
-  unfolding same-terms
-  alike-priority e n = rw (eq-eqb (a .class) (b .class) e, ne-eqb (a .priority) (b .priority) n)
-
-  pub alike-rer : a .class ≡ b .class → a .priority ≡ b .priority → eqb (a .rer) (b .rer) ≡ same-terms a b
-  unfolding same-terms
-  alike-rer e f = rw (eq-eqb (a .class) (b .class) e, eq-eqb (a .priority) (b .priority) f)
+use Rattle.said.specs.declared.Pen.{Pen}
+use Rattle.said.specs.Pens.{Laid}
+use Rattle.turn_laws.specs.Moves.{advanced, entered, keeping, appended, joined}
+use Rattle.said.specs.Saying.{said, fresh, msgAt}
+use Rattle.turn_laws.proofs.Moved.{not-taken, number-is, numberOf, ids-are, count-is, fresh-is, sent-is, opened-single, opened-multi}
+use Rattle.turn_laws.proofs.Gave.{Goes, went, refuses, turned-as}
 
 -- ---- the message of a request
 
@@ -159,7 +135,7 @@ module _ (s : Setup) (u : Value) where
   bar-is (single T w t) e n a m = let z : _≡_ {A = ℕ} 1 4 = rw e at n in absurd (omega arith)
   bar-is (multi T k t) e n a m = let z : _≡_ {A = ℕ} 2 4 = rw e at n in absurd (omega arith)
   bar-is (ending T w t) e n a m = let z : _≡_ {A = ℕ} 3 4 = rw e at n in absurd (omega arith)
-  bar-is (assoc T w t) e n a m = rw e (ap (λ l. pick (same-terms (settled a) T) (bar-confirmed m l) (some 3)) (sym (Rattle.unit.proofs.Moved.take-padded 8 w)))
+  bar-is (assoc T w t) e n a m = rw e (ap (λ l. pick (same-terms (settled a) T) (bar-confirmed m l) (some 3)) (sym (Rattle.turn_laws.proofs.Moved.take-padded 8 w)))
 
   refused-is : (st : State) → u ≡ picture s st → u .state ≡ 4 → (k : ℕ) (a : Terms) (m : Msg) → on-multi (some k) a m st ≡ refused k
   unfolding on-multi

@@ -1,8 +1,8 @@
--- `unit::after` meets its contract. Closed by laws of EntryLaws, one for each way out.
-use Rattle.unit.proofs.EntryLaws.{after-none, after-some}
+-- `said::after` meets its contract. Closed by laws of SmallLaws, one for each way out.
+use Rattle.said.proofs.SmallLaws.{after-none, after-some}
 use borrow.Author.Needs.{needs}
-use Rattle.unit.proofs.after.Statement.{statement}
-use Rattle.unit.proofs.after.Tie as tie
+use Rattle.said.proofs.after.Statement.{statement}
+use Rattle.said.proofs.after.Tie as tie
 
 slice-aggregate-result : tie.Need-slice-aggregate-result
 slice-aggregate-result c = search needs

@@ -15,7 +15,7 @@ use Rattle.book.specs.Waiting.{closed}
 use Rattle.book.specs.View.{msgOctets}
 use Rattle.book.specs.declared.Terms.{Terms}
 use Rattle.book.specs.declared.Unit.{Unit as Value}
-use Rattle.unit.specs.Moves.{advanced, rested, entered, cleared, keeping, waitingWith, appended, removed, joined, made}
+use Rattle.turn_laws.specs.Moves.{advanced, rested, entered, cleared, keeping, waitingWith, appended, removed, joined, made}
 
 -- ---- arrays padded with 0
 

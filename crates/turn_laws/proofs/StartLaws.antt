@@ -30,17 +30,17 @@ use Rattle.book.specs.Picture.{picture, setupOf, stateOf, idsIn, padded}
 use Rattle.book.specs.Step.{Turned, orNothing}
 use Rattle.book.specs.Ready.{Ready, Reads}
 use Rattle.book.proofs.Views.{view-octets, faulty-reading, whole-reading, plainIn, sureIn, noteIn, plain-view, sure-view, note-view, plain-octets, sure-octets}
-use Rattle.unit.specs.declared.lines.Pen.{Pen}
-use Rattle.unit.specs.declared.lines.Note.{Note}
-use Rattle.unit.specs.declared.lines.Say.{Say}
-use Rattle.unit.specs.Pens.{Laid}
-use Rattle.unit.specs.Notes.{noteOctets, answerLine, AckOf}
-use Rattle.unit.specs.Moves.{entered, cleared}
-use Rattle.unit.specs.Saying.{said, fresh, maintains, seenLines, greeted}
-use Rattle.unit.proofs.PenLaws.{laid-none, laid-as, and-then}
-use Rattle.unit.proofs.Moved.{not-taken, take-padded, name-is, ids-are, opened-assoc, begun-assoc}
-use Rattle.unit.proofs.Gave.{Goes, went, gave, turned-as, seen-first, sayUncertain, sayFailed, failed-lines, unsure-lines, cleared-idle}
-use Rattle.unit.proofs.DataLaws.{ack-octets}
+use Rattle.said.specs.declared.Pen.{Pen}
+use Rattle.said.specs.declared.Note.{Note}
+use Rattle.said.specs.declared.Say.{Say}
+use Rattle.said.specs.Pens.{Laid}
+use Rattle.said.specs.Notes.{noteOctets, answerLine, AckOf}
+use Rattle.turn_laws.specs.Moves.{entered, cleared}
+use Rattle.said.specs.Saying.{said, fresh, maintains, seenLines, greeted}
+use Rattle.said.proofs.PenLaws.{laid-none, laid-as, and-then}
+use Rattle.turn_laws.proofs.Moved.{not-taken, take-padded, name-is, ids-are, opened-assoc, begun-assoc}
+use Rattle.turn_laws.proofs.Gave.{Goes, went, gave, turned-as, seen-first, sayUncertain, sayFailed, failed-lines, unsure-lines, cleared-idle}
+use Rattle.turn_laws.proofs.DataLaws.{ack-octets}
 
 -- ---- "frame or nothing"
 

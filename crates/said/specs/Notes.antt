@@ -10,8 +10,8 @@ use Rattle.frame.specs.Decoding.{octetIn, messageAt}
 use Rattle.book.specs.View.{needed, frameOctets, kindFor}
 use Rattle.book.specs.Book.{Frame, note}
 use Rattle.frame.specs.declared.OneOctet.the-variants.{NoOctet}
-use Rattle.unit.specs.declared.lines.Note.{Note}
-use Rattle.unit.specs.declared.lines.Say.{Say}
+use Rattle.said.specs.declared.Note.{Note}
+use Rattle.said.specs.declared.Say.{Say}
 
 -- confirmation, reference, multiShot bit and type as the note says; the unit's name as sender; nothing else
 abbrev pub noteFrame : Note → (name : List ℕ) → Frame

@@ -6,7 +6,7 @@ use mathlib.Core.List.{List}
 use lib.ListN.{length}
 use Rattle.octets.specs.Put.{Put}
 use Rattle.book.specs.Lines.{laid}
-use Rattle.unit.specs.declared.lines.Pen.{Pen}
+use Rattle.said.specs.declared.Pen.{Pen}
 
 -- the lines ls were laid from the pen p on; the pen is then q
 pub record Laid (before : List ℕ) (p : Pen) (ls : List (List ℕ)) (after : List ℕ) (q : Pen) : Type 0 where

@@ -37,15 +37,15 @@ use Rattle.book.specs.Picture.{picture, setupOf, stateOf, idsIn}
 use Rattle.book.specs.Step.{Turned}
 use Rattle.book.specs.Ready.{Ready, Reads}
 use Rattle.book.proofs.Views.{know, view-octets, faulty-reading, whole-reading, plainIn, sureIn, noteIn, plain-view, sure-view, note-view, plain-octets, sure-octets}
-use Rattle.unit.specs.declared.lines.Pen.{Pen}
-use Rattle.unit.specs.declared.lines.Note.{Note}
-use Rattle.unit.specs.Pens.{Laid}
-use Rattle.unit.specs.Notes.{noteFrame, noteOctets, AckOf}
-use Rattle.unit.specs.Moves.{rested, removed, advanced}
-use Rattle.unit.specs.Saying.{said, fresh, maintains, seenLines}
-use Rattle.unit.proofs.PenLaws.{laid-none, laid-as, and-then}
-use Rattle.unit.proofs.Moved.{not-taken, ids-are, name-is, rested-assoc, rested-ending, removed-assoc, removed-ending}
-use Rattle.unit.proofs.Gave.{Goes, went, turned-as, seen-first}
+use Rattle.said.specs.declared.Pen.{Pen}
+use Rattle.said.specs.declared.Note.{Note}
+use Rattle.said.specs.Pens.{Laid}
+use Rattle.said.specs.Notes.{noteFrame, noteOctets, AckOf}
+use Rattle.turn_laws.specs.Moves.{rested, removed, advanced}
+use Rattle.said.specs.Saying.{said, fresh, maintains, seenLines}
+use Rattle.said.proofs.PenLaws.{laid-none, laid-as, and-then}
+use Rattle.turn_laws.proofs.Moved.{not-taken, ids-are, name-is, rested-assoc, rested-ending, removed-assoc, removed-ending}
+use Rattle.turn_laws.proofs.Gave.{Goes, went, turned-as, seen-first}
 
 -- ---- line 25
 
@@ -62,12 +62,6 @@ pub seen-some : (n : ℕ) {b a : List ℕ} {p : Pen} → (n ≡ 0 → ⊥) → n
 seen-some n z h l = laid-as (seen-line n z h) l
 
 -- ---- a message that was heard, as the note that acknowledges it
-
-pub ack-made : (s : List ℕ) (h : Header) (t : OneOctet) (i : TwoOctets) (r : ℕ) → octetIn t ≡ oneOctet (heldAt s (h .«message_type»)) →
-    numberIn i ≡ twoOctets (heldAt s (h .identifier)) → r ≡ needed (numberIn i) →
-    AckOf s h (record { «multi_shot» = h .«multi_shot»; confirmation = 2; «message_type» = t; reference = r })
-unfolding messageAt
-ack-made s h t i r et ei er = record { shot = refl; type = et; reference = er ∙ ap needed ei; confirmation = refl }
 
 ack-fields : (a : Note) (m : Message) (name : List ℕ) → a .«multi_shot» ≡ m .multiShot → octetIn (a .«message_type») ≡ m .messageType →
     a .reference ≡ needed (m .messageIdentifier) → a .confirmation ≡ 2 →

@@ -16,13 +16,13 @@ use Rattle.book.specs.Picture.{picture, setupOf, stateOf}
 use Rattle.book.specs.Sound.{limitOf}
 use Rattle.book.specs.Step.{Turned}
 use Rattle.book.specs.Ready.{Ready}
-use Rattle.unit.specs.declared.lines.Pen.{Pen}
-use Rattle.unit.specs.Pens.{Laid}
-use Rattle.unit.specs.Moves.{advanced, cleared}
-use Rattle.unit.specs.Saying.{said, fresh, maintains, doubts}
-use Rattle.unit.proofs.PenLaws.{laid-none, laid-as, and-then}
-use Rattle.unit.proofs.Moved.{not-taken, ended-is, back-is, cleared-is}
-use Rattle.unit.proofs.Gave.{Goes, went, gave, turned-as, doubted, cleared-idle}
+use Rattle.said.specs.declared.Pen.{Pen}
+use Rattle.said.specs.Pens.{Laid}
+use Rattle.turn_laws.specs.Moves.{advanced, cleared}
+use Rattle.said.specs.Saying.{said, fresh, maintains, doubts}
+use Rattle.said.proofs.PenLaws.{laid-none, laid-as, and-then}
+use Rattle.turn_laws.proofs.Moved.{not-taken, ended-is, back-is, cleared-is}
+use Rattle.turn_laws.proofs.Gave.{Goes, went, gave, turned-as, doubted, cleared-idle}
 
 module _ (s : Setup) (u : Value) where
   end-goes : (st : State) → u ≡ picture s st → takes (u .state) 2 ≡ true → Goes s (on-end st) (advanced u 3 0) (send fin ∷ [])

@@ -19,7 +19,7 @@ use Rattle.book.specs.Ready.{Ready}
 use Rattle.book.specs.Picture.{setupOf, stateOf, msgIn}
 use Rattle.book.specs.declared.Unit.{Unit as Value}
 use Rattle.book.specs.View.{frameAt}
-use Rattle.unit.specs.declared.lines.Pen.{Pen}
+use Rattle.said.specs.declared.Pen.{Pen}
 
 abbrev pub said : List Out → List (List ℕ)
 said os = map lineOf os
@@ -51,29 +51,3 @@ msgAt s h = msgIn (good (frameAt s h) 0)
 -- 10 with a valid frame
 unfoldable pub greeted : Setup → Terms → Frame → ℕ → Outcome
 greeted s a f n = first-contact s a (some (good f n))
-
--- the column of an event in the turn table; a request, and a malformed event, are not turned away there
-abbrev pub columnOf : Event → ℕ
-columnOf Malformed = 3
-columnOf (Transfer c a) = 3
-columnOf End = 2
-columnOf Tick = 3
-columnOf (StartAsked a) = 4
-columnOf (StartAnswered b) = 5
-columnOf Data = 6
-columnOf EndAsked = 7
-columnOf (EndAnswered b) = 8
-columnOf Aborted = 9
-columnOf Dropped = 10
-
--- An event that is not turned away: the unit is a sound one, in a state that takes it, and there is room; the step is what the event does.
-pub record Cleared (room : ℕ) (u : Value) (e : Event) : Type 0 where
-  pub ready : Ready u
-  pub taken : takes (u .state) (columnOf e) ≡ true
-  pub space : 1024 ≤ room
-  pub steps : (ev : List ℕ) → e ≡ eventOf ev → step room u ev ≡ does (setupOf u) e (drop (frameFrom e) ev) (stateOf u)
-
--- what is known of an event before anything is done: 0, and it is cleared, or the number with which it is refused
-pub record Vetted (room : ℕ) (u : Value) (e : Event) (n : ℕ) : Type 0 where
-  pub clear : n ≤ 0 → Cleared room u e
-  pub refuses : 0 < n → (ev : List ℕ) → e ≡ eventOf ev → step room u ev ≡ refused n

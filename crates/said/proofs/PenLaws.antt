@@ -23,11 +23,11 @@ use Rattle.frame.proofs.BareLaws.{bare-length}
 use Rattle.book.specs.Book.{Kind, ok, not-ok, unknown}
 use Rattle.book.specs.View.{frameOctets, frameMessage, kindNumber, kindFor}
 use Rattle.book.specs.Lines.{laid}
-use Rattle.unit.specs.Pens.{Laid}
-use Rattle.unit.specs.Notes.{noteFrame, noteOctets, answerLine}
-use Rattle.unit.specs.declared.lines.Pen.{Pen}
-use Rattle.unit.specs.declared.lines.Note.{Note}
-use Rattle.unit.specs.declared.lines.Say.{Say}
+use Rattle.said.specs.Pens.{Laid}
+use Rattle.said.specs.Notes.{noteFrame, noteOctets, answerLine}
+use Rattle.said.specs.declared.Pen.{Pen}
+use Rattle.said.specs.declared.Note.{Note}
+use Rattle.said.specs.declared.Say.{Say}
 
 -- ---- lines after lines
 

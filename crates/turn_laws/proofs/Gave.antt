@@ -17,14 +17,14 @@ use Rattle.book.specs.Lines.{lineOf, laid, laidOut}
 use Rattle.book.specs.Picture.{picture, setupOf, stateOf, idsIn}
 use Rattle.book.specs.Step.{turnOf, octetsOf, Turned}
 use Rattle.book.specs.Ready.{Ready}
-use Rattle.unit.specs.declared.lines.Pen.{Pen}
-use Rattle.unit.specs.declared.lines.Say.{Say}
-use Rattle.unit.specs.Pens.{Laid}
-use Rattle.unit.specs.Notes.{noteOctets, answerLine}
-use Rattle.unit.specs.Moves.{cleared}
-use Rattle.unit.specs.Saying.{said, fresh, maintains, doubts, seenLines}
-use Rattle.unit.proofs.PenLaws.{laid-as, and-then}
-use Rattle.unit.proofs.Moved.{number-is, numberOf, ids-are, name-is, cleared-is}
+use Rattle.said.specs.declared.Pen.{Pen}
+use Rattle.said.specs.declared.Say.{Say}
+use Rattle.said.specs.Pens.{Laid}
+use Rattle.said.specs.Notes.{noteOctets, answerLine}
+use Rattle.turn_laws.specs.Moves.{cleared}
+use Rattle.said.specs.Saying.{said, fresh, maintains, doubts, seenLines}
+use Rattle.said.proofs.PenLaws.{laid-as, and-then}
+use Rattle.turn_laws.proofs.Moved.{number-is, numberOf, ids-are, name-is, cleared-is}
 
 said-length : (os : List Out) → length (said os) ≡ length os
 said-length [] = refl

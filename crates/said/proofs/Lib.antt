@@ -1,0 +1,3 @@
+pub mod PenLaws
+pub mod SmallLaws
+pub mod OneResult
