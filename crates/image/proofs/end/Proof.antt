@@ -1,0 +1,15 @@
+-- `image::end` meets its contract. Closed by laws of ReaderLaws.
+use Rattle.image.specs.Image.{unitOf}
+use borrow.Author.Needs.{needs}
+use Rattle.image.proofs.end.Statement.{statement}
+use Rattle.image.proofs.end.Tie as tie
+
+two-requires : tie.Need-two-requires
+two-requires c κs = search needs
+
+returns : tie.Need-returns
+unfolding unitOf
+returns c = search needs
+
+pub end-spec : {M : Type 1} → statement M
+end-spec = tie.close (tie.spec two-requires returns)
