@@ -1,11 +1,10 @@
 -- A block that is another but for the octets from lo to hi, and the parts of a unit that are then the same.
-use Prim.Native.Nat.{ℕ, zero, suc, _+_, _*_, _<_, _≤_}
+use Prim.Native.Nat.{ℕ, suc, _+_, _<_, _≤_}
 use mathlib.Core.Path.{_≡_, refl, ap, sym, _∙_}
 use mathlib.Core.List.{List, [], _∷_, _++_}
 use native.Mathlib.Omega.{arith}
-use lib.ListN.{length, take, drop, getD, set, length-set, length-take, length-drop, List·getD-append}
-use lib.Seq.{sets, sets-eq, length-sets, ext-getD, getD-take, getD-drop, getD-set-other, getD-append-add, length-take-le}
-use Rattle.book.specs.declared.Terms.{Terms}
+use lib.ListN.{length, take, drop, getD, set, length-set, length-drop, List·getD-append}
+use lib.Seq.{sets, sets-eq, ext-getD, getD-take, getD-drop, getD-set-other, getD-append-add, length-take-le}
 use Rattle.book.specs.declared.Unit.{Unit as Value}
 use Rattle.image.specs.Image.{two, waitingIn, termsIn, unitOf}
 

@@ -1,18 +1,14 @@
 -- One law for each store: the unit that the image then stands for.
 use Prim.Native.Nat.{ℕ, zero, suc, _+_, _*_, _/_, _%_, _<_, _≤_}
 use mathlib.Core.Path.{_≡_, refl, ap, sym, _∙_}
-use mathlib.Core.Logic.{_≢_}
-use mathlib.Core.List.{List, [], _∷_, _++_}
+use mathlib.Core.List.{List, [], _∷_}
 use native.Mathlib.Omega.{arith}
-use native.Mathlib.Nat.{add-suc}
 use mathlib.Core.Bool.{Bool, true, false}
-use borrow.Author.Tests.{ltb-true, ltb-false, ne-eqb}
-use Rattle.book.specs.Sound.{limitOf}
+use borrow.Author.Tests.{ltb-true, ltb-false}
 use lib.Dec.{ltb}
-use lib.ListN.{length, take, drop, getD, set, replicate, length-set, length-drop, length-replicate, getD-replicate}
-use lib.Seq.{sets, take-set-le, take-set-lt, drop-set-add, getD-set-same, getD-set-other, ext-getD}
+use lib.ListN.{length, take, drop, getD, set, replicate, length-set, getD-replicate}
+use lib.Seq.{sets, take-set-lt, drop-set-add, getD-set-same, getD-set-other, ext-getD}
 use Rattle.book.specs.declared.Terms.{Terms}
-use Rattle.book.specs.declared.Unit.{Unit as Value}
 use Rattle.image.specs.Image.{two, waitingIn, termsIn, unitOf}
 use Rattle.image.specs.Fields.{withState, withElapsed, withTerms, withCount, withOctets, withWaiting, withKept}
 use Rattle.image.proofs.Near.{Near, near-set, near-then, near-sets, getD-sets, unit-as, name-near, kept-below, kept-above, waiting-near, two-low, two-high, terms-low, terms-high}

@@ -1,6 +1,5 @@
 -- Each public contract leaves one result. Closed by the equalities that it gives; a note's type by cases.
-use mathlib.Core.Path.{_≡_, refl, ap, sym, _∙_}
-use mathlib.Core.Option.{Option, some, none}
+use mathlib.Core.Path.{_≡_, refl, sym, _∙_}
 use Prim.Native.Nat.{ℕ}
 use mathlib.Core.Bool.{Bool}
 use denote.Ref.{now}
@@ -10,14 +9,19 @@ use Rattle.frame.specs.declared.OneOctet.the-variants.{NoOctet, Octet}
 use Rattle.frame.specs.Decoding.{octetIn}
 use Rattle.said.specs.declared.Note.{Note}
 use Rattle.said.proofs.bit_of.Reads as bit-of
+use Rattle.said.proofs.before_name.Reads as before-name
 use Rattle.said.proofs.result_of.Reads as result-of
 use Rattle.said.proofs.ack_of.Reads as ack-of
 use Rattle.said.proofs.settle.Reads as settle
 use Rattle.said.proofs.alike.Reads as alike
 use Rattle.said.proofs.after.Reads as after
+use Rattle.said.proofs.name_of.Reads as name-of
 
 pub one-bit-of : Leaves bit-of.Post (λ κs r e. r)
 one-bit-of κs a x y e f p q = p .0 ∙ sym (q .0)
+
+pub one-before-name : Leaves before-name.Post (λ κs r e. r)
+one-before-name κs a x y e f p q = p .0 ∙ sym (q .0)
 
 pub one-result-of : Leaves result-of.Post (λ κs r e. r)
 one-result-of κs a x y e f p q = p ∙ sym q
@@ -46,3 +50,6 @@ one-alike κs a x y e f p q = p ∙ sym q
 
 pub one-after : Leaves after.Post (λ κs r e. now r)
 one-after κs a x y e f p q = p ∙ sym q
+
+pub one-name-of : Leaves name-of.Post (λ κs r e. r)
+one-name-of κs a x y e f p q = p ∙ sym q

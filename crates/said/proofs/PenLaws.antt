@@ -1,33 +1,30 @@
 -- Lines as the code lays them: a head with its length in front, then a body. Closed by `then` of Puts, and the length computed.
-use Prim.Native.Nat.{ℕ, zero, suc, _+_, _-_, _*_, _<_, _≤_, _/_, _%_}
+use Prim.Native.Nat.{ℕ, zero, suc, _+_, _-_, _<_, _≤_, _/_, _%_}
 use mathlib.Core.Path.{_≡_, refl, ap, sym, _∙_}
-use mathlib.Core.Bool.{Bool, true, false}
-use mathlib.Core.Option.{Option, none, some}
+use mathlib.Core.Bool.{Bool}
+use mathlib.Core.Option.{none}
 use mathlib.Core.List.{List, [], _∷_, _++_, append-assoc, append-nil, map, map-append}
 use native.Mathlib.Omega.{arith}
-use native.Mathlib.Nat.{add-zero, add-assoc}
 use native.Mathlib.Numerals.{add-one}
-use lib.ListN.{length, take, drop, getD, length-append}
-use lib.Seq.{sets, take-suc, length-take-le}
+use lib.ListN.{length, take, getD, length-append}
+use lib.Seq.{sets, take-suc}
 use Rattle.octets.specs.Put.{Put}
 use Rattle.octets.proofs.Puts.{then, put-as}
 use Rattle.octets.proofs.Puts as Puts
 use Rattle.frame.specs.Message.{present}
-use Rattle.frame.specs.Encoding.{weight, typeOctets, firstOctet, encode, frameOf}
+use Rattle.frame.specs.Encoding.{weight, typeOctets, firstOctet}
 use Rattle.frame.specs.Decoding.{octetIn}
 use Rattle.frame.specs.Stripping.{bareTo}
 use Rattle.frame.specs.declared.OneOctet.{OneOctet}
 use Rattle.frame.specs.declared.OneOctet.the-variants.{NoOctet, Octet}
 use Rattle.frame.proofs.WriterLaws.{encode-is}
 use Rattle.frame.proofs.BareLaws.{bare-length}
-use Rattle.book.specs.Book.{Kind, ok, not-ok, unknown}
 use Rattle.book.specs.View.{frameOctets, frameMessage, kindNumber, kindFor}
 use Rattle.book.specs.Lines.{laid}
 use Rattle.said.specs.Pens.{Laid}
-use Rattle.said.specs.Notes.{noteFrame, noteOctets, answerLine}
+use Rattle.said.specs.Notes.{noteFrame, noteOctets}
 use Rattle.said.specs.declared.Pen.{Pen}
 use Rattle.said.specs.declared.Note.{Note}
-use Rattle.said.specs.declared.Say.{Say}
 
 -- ---- lines after lines
 
@@ -97,7 +94,7 @@ note-at (Octet t) m c r name h l =
     encode-is (frameMessage (noteFrame (record { «multi_shot» = m; confirmation = c; «message_type» = Octet t; reference = r }) name))
     ∙ rw (conf-back c h l, append-nil name)
 
-note-is : (n : Note) (name : List ℕ) → 2 ≤ n .confirmation → n .confirmation ≤ 4 → noteOctets n name
+pub note-is : (n : Note) (name : List ℕ) → 2 ≤ n .confirmation → n .confirmation ≤ 4 → noteOctets n name
     ≡ ((weight (present (octetIn (n .«message_type»))) 64 + 24 + weight (n .«multi_shot») 1) ∷ n .confirmation ∷ [])
     ++ typeOctets (octetIn (n .«message_type»)) ++ (n .reference / 256 ∷ n .reference % 256 ∷ length name ∷ name)
 note-is n name h l = note-at (n .«message_type») (n .«multi_shot») (n .confirmation) (n .reference) name h l
@@ -135,9 +132,9 @@ line-note head n name size p h l e x y = line-made head (noteOctets n name) size
 pub answers-more : (f : ℕ → List ℕ) (ids : List ℕ) (i : ℕ) → i < length ids → map f (take i ids) ++ (f (getD ids i 0) ∷ []) ≡ map f (take (i + 1) ids)
 answers-more f ids i h = rw (add-one, take-suc ids i 0 h, map-append f)
 
--- how many octets a note takes
-pub size-none : (t : OneOctet) (n : ℕ) → t ≡ NoOctet → 5 + n ≡ 5 + length (typeOctets (octetIn t)) + n
-size-none t n e = rw e (omega arith)
+-- how many octets a note has before its name
+pub size-none : (t : OneOctet) → t ≡ NoOctet → 5 ≡ 5 + length (typeOctets (octetIn t))
+size-none t e = rw e
 
-pub size-some : (t : OneOctet) (n x : ℕ) → t ≡ Octet x → 6 + n ≡ 5 + length (typeOctets (octetIn t)) + n
-size-some t n x e = rw e (omega arith)
+pub size-some : (t : OneOctet) (x : ℕ) → t ≡ Octet x → 6 ≡ 5 + length (typeOctets (octetIn t))
+size-some t x e = rw e

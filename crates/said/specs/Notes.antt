@@ -2,7 +2,6 @@
 -- No public contract speaks of this file, only contracts of functions inside a crate: a reader of 01 may skip it.
 use Prim.Native.Nat.{ℕ}
 use mathlib.Core.List.{List, _∷_}
-use mathlib.Core.Bool.{Bool}
 use mathlib.Core.Option.{none}
 use mathlib.Core.Path.{_≡_}
 use Rattle.frame.specs.declared.Header.{Header}

@@ -1,21 +1,13 @@
 -- The rule book's lines as the functions of this crate lay them.
 -- No public contract speaks of this file, only contracts of functions inside a crate: a reader of 01 may skip it.
-use Prim.Native.Nat.{ℕ, _≤_, _<_}
+use Prim.Native.Nat.{ℕ}
 use mathlib.Core.List.{List, [], map}
 use mathlib.Core.Bool.{Bool, true, false}
-use mathlib.Core.Path.{_≡_}
-use lib.ListN.{drop}
 use Rattle.frame.specs.declared.Header.{Header}
-use Rattle.book.specs.declared.Event.{Event}
-use Rattle.book.specs.declared.Event.the-variants.{Malformed, Transfer, End, Tick, StartAsked, StartAnswered, Data, EndAsked, EndAnswered, Aborted, Dropped}
 use mathlib.Core.Option.{some}
 use Rattle.book.specs.declared.Terms.{Terms}
-use Rattle.book.specs.Book.{Msg, Frame, Setup, Outcome, refused, first-contact, good, Out, State, idle, single, multi, ending, assoc, unsure, with-seen, waitingOf}
+use Rattle.book.specs.Book.{Msg, Frame, Setup, Outcome, first-contact, good, Out, State, idle, single, multi, ending, assoc, unsure, with-seen, waitingOf}
 use Rattle.book.specs.Lines.{lineOf}
-use Rattle.book.specs.Events.{eventOf, frameFrom}
-use Rattle.book.specs.Turns.{takes}
-use Rattle.book.specs.Step.{does, step}
-use Rattle.book.specs.Ready.{Ready}
 use Rattle.book.specs.Picture.{setupOf, stateOf, msgIn}
 use Rattle.book.specs.declared.Unit.{Unit as Value}
 use Rattle.book.specs.View.{frameAt}

@@ -1,10 +1,12 @@
 // What both engines say: the pen that lays lines, the notes that a unit makes itself, and the small questions that an event asks of terms and frames.
 ghost use mathlib.Core.Path.{_≡_};
-ghost use Prim.Native.Nat.{_≤_};
+ghost use Prim.Native.Nat.{_+_, _≤_};
 ghost use lib.Dec.{eqb};
-ghost use lib.ListN.{drop};
+ghost use lib.ListN.{length, drop, replicate};
+ghost use lib.Seq.{sets};
 ghost use Rattle.octets.specs.Choice.{pick};
-ghost use Rattle.frame.specs.Encoding.{weight};
+ghost use Rattle.frame.specs.Encoding.{weight, typeOctets};
+ghost use Rattle.frame.specs.Decoding.{octetIn};
 ghost use Rattle.book.specs.Book.{same-terms, settled};
 ghost use Rattle.said.specs.Notes.{AckOf};
 use book::Terms;
@@ -37,6 +39,16 @@ pub fn bit_of(b: bool) -> u8
     ensures { λ r. ⌜ (r ≡ weight b 1) × (r ≤ 1) ⌝ }
 {
     if b { 1 } else { 0 }
+}
+
+// How many octets a note has before its name.
+pub fn before_name(message_type: OneOctet) -> usize
+    ensures { λ r. ⌜ (r ≡ 5 + length (typeOctets (octetIn «message_type»))) × (r ≤ 6) ⌝ }
+{
+    let OneOctet::Octet(_) = message_type else {
+        return 5;
+    };
+    6
 }
 
 // 0 for confirmedOk, else 1.
@@ -97,4 +109,13 @@ pub fn after(event: &[u8], from: usize) -> &[u8]
         return &event[..0];
     }
     &event[from..]
+}
+
+// A name at the front of an array of 0; what finds no room is left out.
+pub fn name_of(name: &[u8]) -> [u8; 32]
+    ensures { λ r. ⌜ r ≡ sets (replicate 32 0) 0 (now (name .entry)) ⌝ }
+{
+    let mut letters = [0u8; 32];
+    octets::put(&mut letters, 0, name);
+    letters
 }

@@ -12,39 +12,36 @@ use lib.Seq.{length-take-le}
 use Rattle.octets.specs.Choice.{pick}
 use Rattle.frame.specs.declared.Header.{Header}
 use Rattle.frame.specs.declared.Fault.{Fault}
-use Rattle.frame.specs.declared.OneOctet.{OneOctet}
 use Rattle.frame.specs.declared.TwoOctets.{TwoOctets}
 use Rattle.frame.specs.declared.Reading.{Reading as Answer}
 use Rattle.frame.specs.declared.Reading.the-variants.{Whole, Faulty}
 use Rattle.frame.specs.Message.{Message}
 use Rattle.frame.specs.Faults.{faultNumber}
-use Rattle.frame.specs.Reading.{octet, readingOf}
-use Rattle.frame.specs.Decoding.{messageAt, octetIn, numberIn, oneOctet, twoOctets, heldAt, octetsOr}
+use Rattle.frame.specs.Reading.{readingOf}
+use Rattle.frame.specs.Decoding.{messageAt, octetIn, numberIn, twoOctets, heldAt}
 use Rattle.frame.specs.Stripping.{bareTo}
-use Rattle.frame.proofs.Inversion.{Known}
-use Rattle.book.specs.declared.Terms.{Terms}
 use Rattle.book.specs.declared.Unit.{Unit as Value}
 use Rattle.book.specs.declared.Turn.{Turn}
 use Rattle.book.specs.declared.Verdict.the-variants.{Done}
 use Rattle.book.specs.declared.Found.{Found}
 use Rattle.book.specs.declared.Found.the-variants.{Place, Nowhere}
-use Rattle.book.specs.Book.{Body, Msg, plain, sure, Kind, ok, not-ok, unknown, Frame, msg, note, good, bad, Out, give, answer, send, dat, seen, State, idle, single, multi, ending, assoc, Setup, Outcome, done, waitingOf, without, without-in, ack, ack-body, with-seen, noted, left-waiting, result-of, fall, on-dat}
-use Rattle.book.specs.View.{needed, bodyIn, viewed, readingIn, frameOctets, msgOctets, frameAt, kindFor}
-use Rattle.book.specs.Lines.{lineOf, termsOctets, resultNumber}
+use Rattle.book.specs.Book.{Body, plain, sure, Kind, ok, Frame, msg, note, good, bad, give, answer, send, dat, State, idle, single, multi, ending, assoc, Setup, waitingOf, without, without-in, ack, ack-body, with-seen, noted, left-waiting, result-of, fall, on-dat}
+use Rattle.book.specs.View.{needed, bodyIn, readingIn, frameOctets, msgOctets, frameAt, kindFor}
+use Rattle.book.specs.Lines.{termsOctets, resultNumber}
 use Rattle.book.specs.Turns.{takes}
 use Rattle.book.specs.Waiting.{placeOf}
 use Rattle.book.specs.Picture.{picture, setupOf, stateOf, idsIn}
 use Rattle.book.specs.Step.{Turned}
 use Rattle.book.specs.Ready.{Ready, Reads}
-use Rattle.book.proofs.Views.{know, view-octets, faulty-reading, whole-reading, plainIn, sureIn, noteIn, plain-view, sure-view, note-view, plain-octets, sure-octets}
+use Rattle.book.proofs.Views.{view-octets, faulty-reading, whole-reading, plainIn, sureIn, noteIn, plain-view, sure-view, note-view, plain-octets, sure-octets}
 use Rattle.said.specs.declared.Pen.{Pen}
 use Rattle.said.specs.declared.Note.{Note}
 use Rattle.said.specs.Pens.{Laid}
 use Rattle.said.specs.Notes.{noteFrame, noteOctets, AckOf}
 use Rattle.turn_laws.specs.Moves.{rested, removed, advanced}
-use Rattle.said.specs.Saying.{said, fresh, maintains, seenLines}
+use Rattle.said.specs.Saying.{fresh, maintains, seenLines}
 use Rattle.said.proofs.PenLaws.{laid-none, laid-as, and-then}
-use Rattle.turn_laws.proofs.Moved.{not-taken, ids-are, name-is, rested-assoc, rested-ending, removed-assoc, removed-ending}
+use Rattle.turn_laws.proofs.Moved.{not-taken, ids-are, rested-assoc, rested-ending, removed-assoc, removed-ending}
 use Rattle.turn_laws.proofs.Gave.{Goes, went, turned-as, seen-first}
 
 -- ---- line 25

@@ -1,16 +1,15 @@
 -- 03, 04, 13, 14, 15, 16 and the falls: one law for each way out. Closed by cases on the state.
-use Prim.Native.Nat.{ℕ, zero, suc, _+_, _<_, _≤_}
+use Prim.Native.Nat.{ℕ, suc, _+_, _<_, _≤_}
 use mathlib.Core.Path.{_≡_, refl, ap, sym, _∙_}
 use mathlib.Core.Bool.{Bool, true, false}
 use mathlib.Core.List.{List, [], _∷_, _++_, append-nil}
 use native.Mathlib.Omega.{arith}
 use native.Mathlib.Numerals.{add-one}
 use borrow.Author.Tests.{lt-leb, le-leb}
-use lib.ListN.{length}
 use Rattle.book.specs.declared.Unit.{Unit as Value}
 use Rattle.book.specs.declared.Turn.{Turn}
 use Rattle.book.specs.declared.Verdict.the-variants.{Done}
-use Rattle.book.specs.Book.{Out, send, gone, ended, cut, fin, finOk, State, idle, single, multi, ending, assoc, Setup, Outcome, refused, done, waitingOf, unsure, fall, quiet-fall, late, on-end, on-tick, on-fin, on-finOk, on-abort}
+use Rattle.book.specs.Book.{send, gone, ended, fin, finOk, State, idle, single, multi, ending, assoc, Setup, done, waitingOf, unsure, fall, quiet-fall, late, on-end, on-tick, on-fin, on-finOk, on-abort}
 use Rattle.book.specs.Turns.{takes}
 use Rattle.book.specs.Picture.{picture, setupOf, stateOf}
 use Rattle.book.specs.Sound.{limitOf}
@@ -20,8 +19,8 @@ use Rattle.said.specs.declared.Pen.{Pen}
 use Rattle.said.specs.Pens.{Laid}
 use Rattle.turn_laws.specs.Moves.{advanced, cleared}
 use Rattle.said.specs.Saying.{said, fresh, maintains, doubts}
-use Rattle.said.proofs.PenLaws.{laid-none, laid-as, and-then}
-use Rattle.turn_laws.proofs.Moved.{not-taken, ended-is, back-is, cleared-is}
+use Rattle.said.proofs.PenLaws.{laid-none, and-then}
+use Rattle.turn_laws.proofs.Moved.{not-taken, ended-is, back-is}
 use Rattle.turn_laws.proofs.Gave.{Goes, went, gave, turned-as, doubted, cleared-idle}
 
 module _ (s : Setup) (u : Value) where

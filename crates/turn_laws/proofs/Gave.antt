@@ -1,18 +1,15 @@
 -- A turn from its outcome: what the code laid and returned is what the rule book wants. Closed by the equations of the outcome.
-use Prim.Native.Nat.{ℕ, _+_, _≤_, _<_}
+use Prim.Native.Nat.{ℕ, _+_}
 use mathlib.Core.Path.{_≡_, refl, ap, sym, _∙_}
-use mathlib.Core.Bool.{Bool, true, false, not}
+use mathlib.Core.Bool.{Bool, true, not}
 use mathlib.Core.List.{List, [], _∷_, _++_, map}
-use native.Mathlib.Omega.{arith}
 use native.Mathlib.Nat.{zero-add}
 use lib.ListN.{length, take}
 use lib.Dec.{eqb}
-use Rattle.octets.specs.Put.{Put}
 use Rattle.book.specs.declared.Unit.{Unit as Value}
 use Rattle.book.specs.declared.Turn.{Turn}
-use Rattle.book.specs.declared.Verdict.the-variants.{Done, Refused}
-use Rattle.book.specs.Book.{Out, answer, seen, gone, State, idle, single, multi, ending, assoc, Setup, Outcome, refused, done, unsure, with-seen, local, unknown, not-ok, uncertain, failed, refuse-all, waitingOf, idsOf}
-use Rattle.book.specs.View.{frameOctets}
+use Rattle.book.specs.declared.Verdict.the-variants.{Done}
+use Rattle.book.specs.Book.{Out, answer, State, idle, single, multi, ending, assoc, Setup, Outcome, refused, done, unsure, with-seen, local, unknown, not-ok, uncertain, failed, refuse-all, waitingOf}
 use Rattle.book.specs.Lines.{lineOf, laid, laidOut}
 use Rattle.book.specs.Picture.{picture, setupOf, stateOf, idsIn}
 use Rattle.book.specs.Step.{turnOf, octetsOf, Turned}
@@ -23,8 +20,8 @@ use Rattle.said.specs.Pens.{Laid}
 use Rattle.said.specs.Notes.{noteOctets, answerLine}
 use Rattle.turn_laws.specs.Moves.{cleared}
 use Rattle.said.specs.Saying.{said, fresh, maintains, doubts, seenLines}
-use Rattle.said.proofs.PenLaws.{laid-as, and-then}
-use Rattle.turn_laws.proofs.Moved.{number-is, numberOf, ids-are, name-is, cleared-is}
+use Rattle.said.proofs.PenLaws.{laid-as}
+use Rattle.turn_laws.proofs.Moved.{number-is, numberOf, ids-are, cleared-is}
 
 said-length : (os : List Out) → length (said os) ≡ length os
 said-length [] = refl

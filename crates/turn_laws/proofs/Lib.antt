@@ -5,3 +5,4 @@ pub mod DataLaws
 pub mod RequestLaws
 pub mod StartLaws
 pub mod StepLaws
+pub mod SetupLaws

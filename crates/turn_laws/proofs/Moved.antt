@@ -4,10 +4,9 @@ use mathlib.Core.Path.{_≡_}
 use mathlib.Core.Bool.{true, false}
 use mathlib.Core.List.{List, [], _∷_, _++_, append-assoc}
 use native.Mathlib.Omega.{arith}
-use native.Mathlib.Nat.{sub-zero}
+use native.Mathlib.Nat.{sub-zero, zero-add, not-suc-le-zero}
 use lib.ListN.{length, take, drop, set, replicate, length-append, length-drop, length-replicate, replicate-append-replicate}
 use lib.Seq.{take-append-seam, take-append-le, drop-append-le, length-take-le, set-append-seam, sets, sets-eq}
-use native.Mathlib.Nat.{zero-add, not-suc-le-zero}
 use borrow.Author.Tests.{lt-ltb}
 use Rattle.book.specs.Book.{Msg, State, idle, single, multi, ending, assoc, Setup, idsOf, waitingOf}
 use Rattle.book.specs.Picture.{padded, picture, idsIn}

@@ -1,13 +1,13 @@
 -- 01 and 02: one law for each way out. Closed by cases on the state, and by the tests on the way.
 use Prim.Native.Nat.{ℕ, zero, suc, _+_, _-_, _<_, _≤_}
-use mathlib.Core.Path.{_≡_, refl, ap, sym, _∙_, subst}
+use mathlib.Core.Path.{_≡_, refl, ap, sym, _∙_}
 use mathlib.Core.Bool.{Bool, true, false, not}
 use mathlib.Core.Option.{Option, none, some}
 use mathlib.Core.List.{List, [], _∷_, _++_, append-nil}
 use native.Mathlib.Omega.{arith}
-use borrow.Author.Tests.{eq-eqb, ne-eqb, le-leb, lt-leb}
+use borrow.Author.Tests.{le-leb, lt-leb}
 use lib.Dec.{eqb, leb}
-use lib.ListN.{length, take}
+use lib.ListN.{length}
 use lib.Seq.{length-take-le}
 use Rattle.octets.specs.Choice.{pick, either}
 use Rattle.frame.specs.declared.Header.{Header}
@@ -20,7 +20,6 @@ use Rattle.frame.specs.Encoding.{weight}
 use Rattle.frame.specs.Reading.{octet, readingOf}
 use Rattle.frame.specs.Decoding.{messageAt, numberIn, twoOctets, heldAt}
 use Rattle.frame.specs.Stripping.{bareTo}
-use Rattle.frame.proofs.Inversion.{Known}
 use Rattle.frame.proofs.BareLaws.{bare-length}
 use Rattle.book.specs.declared.Terms.{Terms}
 use Rattle.book.specs.declared.Unit.{Unit as Value}
@@ -28,21 +27,21 @@ use Rattle.book.specs.declared.Turn.{Turn}
 use Rattle.book.specs.declared.Verdict.the-variants.{Done}
 use Rattle.book.specs.declared.Found.{Found}
 use Rattle.book.specs.declared.Found.the-variants.{Place, Nowhere}
-use Rattle.book.specs.Book.{Body, Msg, plain, sure, Frame, msg, note, Reading, good, bad, Out, send, start, dat, State, idle, single, multi, ending, assoc, Setup, Outcome, refused, done, same-terms, settled, idsOf, waitingOf, waits, full, bodyOf, vet, bar-confirmed, bar, on-single, on-multi, on-shot, on-vetted, on-request}
-use Rattle.book.specs.View.{needed, bodyIn, viewedAs, viewed, readingIn, frameOctets, msgOctets, frameMessage, frameAt, kindFor}
-use Rattle.book.specs.Lines.{lineOf, termsOctets}
+use Rattle.book.specs.Book.{Msg, Frame, msg, good, send, start, dat, State, idle, single, multi, ending, assoc, Setup, refused, done, same-terms, settled, idsOf, waits, full, bodyOf, vet, bar-confirmed, bar, on-single, on-multi, on-shot, on-vetted, on-request}
+use Rattle.book.specs.View.{needed, viewedAs, viewed, readingIn, frameOctets, msgOctets, frameMessage, frameAt}
+use Rattle.book.specs.Lines.{termsOctets}
 use Rattle.book.specs.Turns.{takes}
 use Rattle.book.specs.Waiting.{placeOf}
 use Rattle.book.specs.Picture.{picture, setupOf, stateOf, idsIn, msgIn}
-use Rattle.book.specs.Step.{Turned, turnOf}
+use Rattle.book.specs.Step.{Turned}
 use Rattle.book.specs.Ready.{Ready, Reads}
-use Rattle.book.proofs.Views.{reads-made, know, view-octets, faulty-reading, whole-reading, plainIn, sureIn, noteIn, plain-view, sure-view, note-view}
+use Rattle.book.proofs.Views.{reads-made, know, view-octets, faulty-reading, whole-reading, plainIn, sureIn, plain-view, sure-view}
 use Rattle.said.specs.declared.Pen.{Pen}
 use Rattle.said.specs.Pens.{Laid}
 use Rattle.turn_laws.specs.Moves.{advanced, entered, keeping, appended, joined}
 use Rattle.said.specs.Saying.{said, fresh, msgAt}
-use Rattle.turn_laws.proofs.Moved.{not-taken, number-is, numberOf, ids-are, count-is, fresh-is, sent-is, opened-single, opened-multi}
-use Rattle.turn_laws.proofs.Gave.{Goes, went, refuses, turned-as}
+use Rattle.turn_laws.proofs.Moved.{not-taken, fresh-is, sent-is, opened-single, opened-multi}
+use Rattle.turn_laws.proofs.Gave.{Goes, went, turned-as}
 
 -- ---- the message of a request
 

@@ -22,24 +22,23 @@ use Rattle.book.specs.declared.Terms.{Terms}
 use Rattle.book.specs.declared.Unit.{Unit as Value}
 use Rattle.book.specs.declared.Turn.{Turn}
 use Rattle.book.specs.declared.Verdict.the-variants.{Done}
-use Rattle.book.specs.Book.{Msg, Frame, msg, note, Reading, good, bad, Out, give, answer, send, reply, dat, cut, gone, State, idle, single, multi, ending, assoc, Setup, Outcome, refused, done, idsOf, waitingOf, bodyOf, ack, with-seen, fall, greet, first-contact, on-start, result-of, single-result, answered-by, refuse-all, begun, on-reply, local, unknown, uncertain}
+use Rattle.book.specs.Book.{Frame, msg, Reading, good, bad, Out, give, answer, send, reply, dat, cut, gone, State, idle, single, multi, ending, assoc, Setup, done, idsOf, waitingOf, bodyOf, ack, with-seen, fall, greet, first-contact, on-start, result-of, single-result, answered-by, refuse-all, begun, on-reply, local}
 use Rattle.book.specs.View.{needed, bodyIn, viewedAs, viewed, readingIn, frameOctets, msgOctets, frameMessage, frameAt}
-use Rattle.book.specs.Lines.{lineOf, termsOctets, resultNumber}
+use Rattle.book.specs.Lines.{termsOctets, resultNumber}
 use Rattle.book.specs.Turns.{takes}
 use Rattle.book.specs.Picture.{picture, setupOf, stateOf, idsIn, padded}
 use Rattle.book.specs.Step.{Turned, orNothing}
 use Rattle.book.specs.Ready.{Ready, Reads}
-use Rattle.book.proofs.Views.{view-octets, faulty-reading, whole-reading, plainIn, sureIn, noteIn, plain-view, sure-view, note-view, plain-octets, sure-octets}
+use Rattle.book.proofs.Views.{view-octets, faulty-reading, whole-reading, plainIn, sureIn, plain-view, sure-view, note-view, plain-octets, sure-octets}
 use Rattle.said.specs.declared.Pen.{Pen}
 use Rattle.said.specs.declared.Note.{Note}
-use Rattle.said.specs.declared.Say.{Say}
 use Rattle.said.specs.Pens.{Laid}
 use Rattle.said.specs.Notes.{noteOctets, answerLine, AckOf}
 use Rattle.turn_laws.specs.Moves.{entered, cleared}
 use Rattle.said.specs.Saying.{said, fresh, maintains, seenLines, greeted}
-use Rattle.said.proofs.PenLaws.{laid-none, laid-as, and-then}
-use Rattle.turn_laws.proofs.Moved.{not-taken, take-padded, name-is, ids-are, opened-assoc, begun-assoc}
-use Rattle.turn_laws.proofs.Gave.{Goes, went, gave, turned-as, seen-first, sayUncertain, sayFailed, failed-lines, unsure-lines, cleared-idle}
+use Rattle.said.proofs.PenLaws.{laid-none, and-then}
+use Rattle.turn_laws.proofs.Moved.{not-taken, take-padded, ids-are, opened-assoc, begun-assoc}
+use Rattle.turn_laws.proofs.Gave.{Goes, went, gave, turned-as, seen-first, sayUncertain, sayFailed, failed-lines, cleared-idle}
 use Rattle.turn_laws.proofs.DataLaws.{ack-octets}
 
 -- ---- "frame or nothing"

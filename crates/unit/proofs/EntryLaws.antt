@@ -1,39 +1,29 @@
 -- The entry: the tests before the event, the turn table, and what each event is handed to. Closed by cases on the event and the state.
-use Prim.Native.Nat.{ℕ, zero, suc, _+_, _-_, _<_, _≤_}
+use Prim.Native.Nat.{ℕ, _-_, _<_, _≤_}
 use mathlib.Core.Path.{_≡_, refl, ap, sym, _∙_}
 use mathlib.Core.Bool.{Bool, true, false}
-use mathlib.Core.Option.{Option, none, some}
-use mathlib.Core.List.{List, [], _∷_}
+use mathlib.Core.List.{List}
 use native.Mathlib.Omega.{arith}
-use borrow.Author.Tests.{lt-ltb, le-ltb, leb-true}
-use lib.Dec.{ltb}
-use lib.ListN.{length, take, drop, length-drop, drop-of-length-le}
-use lib.Seq.{take-all}
-use Rattle.octets.specs.Choice.{pick, both}
+use lib.ListN.{length, drop, drop-of-length-le}
 use Rattle.frame.specs.declared.Header.{Header}
 use Rattle.frame.specs.declared.Fault.{Fault}
 use Rattle.frame.specs.declared.Reading.{Reading as Answer}
 use Rattle.frame.specs.declared.Reading.the-variants.{Whole, Faulty}
 use Rattle.frame.specs.Reading.{readingOf}
 use Rattle.frame.specs.Decoding.{partAt}
-use Rattle.book.specs.declared.Terms.{Terms}
 use Rattle.book.specs.declared.Unit.{Unit as Value}
-use Rattle.book.specs.declared.Turn.{Turn}
-use Rattle.book.specs.declared.Verdict.the-variants.{Done, Refused}
 use Rattle.book.specs.declared.Event.{Event}
 use Rattle.book.specs.declared.Event.the-variants.{Malformed, Transfer, End, Tick, StartAsked, StartAnswered, Data, EndAsked, EndAnswered, Aborted, Dropped}
-use Rattle.book.specs.Book.{State, idle, single, multi, ending, assoc, Setup, Outcome, refused, done, on-request, on-end, on-tick, on-start, on-reply, on-dat, on-fin, on-finOk, on-abort}
-use Rattle.book.specs.View.{readingIn}
+use Rattle.book.specs.Book.{State, idle, single, multi, ending, assoc, Setup, refused, on-end, on-start, on-reply, on-dat, on-fin, on-finOk, on-abort}
 use Rattle.book.specs.Turns.{takes}
 use Rattle.book.specs.Events.{eventOf, frameFrom}
-use Rattle.book.specs.Picture.{picture, setupOf, stateOf, padded, noTerms}
-use Rattle.book.specs.Sound.{soundOf, withinLimits}
-use Rattle.book.specs.Step.{does, orNothing, step, Turned, turnOf, setUp, blank}
+use Rattle.book.specs.Picture.{picture, setupOf, stateOf}
+use Rattle.book.specs.Sound.{soundOf}
+use Rattle.book.specs.Step.{does}
 use Rattle.book.specs.Ready.{Ready}
-use Rattle.turn_laws.specs.Moves.{made}
-use Rattle.unit.specs.Vetting.{columnOf, Cleared, Vetted}
+use Rattle.unit.specs.Vetting.{columnOf, Vetted}
 use Rattle.unit.specs.UserData.{userDataOf}
-use Rattle.turn_laws.proofs.Moved.{not-taken, made-is, padded-none}
+use Rattle.turn_laws.proofs.Moved.{not-taken}
 use Rattle.turn_laws.proofs.StepLaws.{step-small, step-unsound, step-does}
 
 -- ---- THE TURN TABLE AND THE RULE BOOK: an event that the table doesn't take is refused with 1 by the rule book
@@ -131,27 +121,6 @@ module _ (room : ℕ) (u : Value) (e : Event) where
     clear = λ y. record { ready = k; taken = acts-yes u e ec et f; space = h; steps = λ ev x. step-does room u ev h q z x };
     refuses = λ y. absurd (omega arith);
   }
-
--- ---- setup
-
-both-right : (a b : Bool) → both a b ≡ true → b ≡ true
-both-right true b e = e
-both-right false b e = not-taken e
-
-pub within-name : (start end inactivity letters : ℕ) → withinLimits start end inactivity letters ≡ true → letters ≤ 32
-unfolding withinLimits
-within-name start end inactivity letters e =
-    leb-true letters 32 (both-right (ltb 0 letters) _ (both-right (ltb 0 inactivity) _ (both-right (ltb 0 end) _ (both-right (ltb 0 start) _ e))))
-
-module _ (start end inactivity : ℕ) (name : List ℕ) {b : Bool} (q : b ≡ withinLimits start end inactivity (length name)) where
-  pub set-up : b ≡ true → {letters : List ℕ} {u : Value} {r : Turn} → letters ≡ padded 32 name → u ≡ made start end inactivity letters (length name) →
-      r ≡ record { unit = u; verdict = Done 0 0 } → r ≡ setUp start end inactivity name
-  unfolding setUp
-  set-up z el eu er = er ∙ rw (sym q ∙ z) (ap (λ v. record { unit = v; verdict = Done 0 0 }) (eu ∙ ap (λ l. made start end inactivity l (length name)) el ∙ made-is start end inactivity name))
-
-  pub not-set : b ≡ false → {u : Value} {r : Turn} → u ≡ blank → r ≡ turnOf u (refused 7) → r ≡ setUp start end inactivity name
-  unfolding setUp turnOf
-  not-set z eu er = er ∙ rw (sym q ∙ z, eu)
 
 -- ---- the user data of an event
 

@@ -1,13 +1,13 @@
 -- A refusal changes nothing: the unit that was handed in comes back, and every octet of the buffer is as it was. Closed by what `Turned` says.
 use Prim.Native.Nat.{ℕ}
 use mathlib.Core.List.{List}
-use mathlib.Core.Path.{_≡_, refl, ap, sym, _∙_}
+use mathlib.Core.Path.{_≡_, ap, _∙_}
 use native.Mathlib.Omega.{arith}
 use Rattle.book.specs.Book.{Outcome, refused, done}
 use Rattle.book.specs.Step.{Turned, turnOf, octetsOf}
 use Rattle.book.specs.declared.Unit.{Unit as Value}
 use Rattle.book.specs.declared.Turn.{Turn}
-use Rattle.book.specs.declared.Verdict.the-variants.{Done, Refused}
+use Rattle.book.specs.declared.Verdict.the-variants.{Refused}
 
 refused-by : (u : Value) (o : Outcome) (n : ℕ) (r : Turn) → r ≡ turnOf u o → r .verdict ≡ Refused n → o ≡ refused n
 unfolding turnOf

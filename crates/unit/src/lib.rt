@@ -1,16 +1,9 @@
 // The dialogue unit: setup, one event, and the user data of an event. Rules: 01, "The five states".
 ghost use mathlib.Core.Path.{_≡_};
-ghost use mathlib.Core.Bool.{true};
-ghost use mathlib.Core.List.{[]};
-ghost use Prim.Native.Nat.{_≤_, _<_};
-ghost use lib.ListN.{length, drop};
+ghost use Prim.Native.Nat.{_<_};
+ghost use lib.ListN.{length};
 ghost use Rattle.book.specs.Book as Book;
-ghost use Rattle.book.specs.Picture.{setupOf, stateOf};
-ghost use Rattle.book.specs.Turns.{takes};
-ghost use Rattle.book.specs.Events.{frameFrom};
-ghost use Rattle.book.specs.Step.{does, step, turnOf, Turned, setUp};
-ghost use Rattle.book.specs.Ready.{Ready};
-ghost use Rattle.book.specs.Picture.{padded};
+ghost use Rattle.book.specs.Step.{step, turnOf, Turned, setUp};
 ghost use Rattle.turn_laws.specs.Moves.{made};
 ghost use Rattle.unit.specs.Vetting.{columnOf, Vetted};
 ghost use Rattle.unit.specs.UserData.{userDataOf};
@@ -123,16 +116,6 @@ pub fn handle(unit: Unit, event: &[u8], out: &mut [u8]) -> Turn
     }
 }
 
-// The name at the front of an array of 0.
-fn name_of(name: &[u8]) -> [u8; 32]
-    requires { ⌜ length (now name) ≤ 32 ⌝ }
-    ensures { λ r. ⌜ r ≡ padded 32 (now (name .entry)) ⌝ }
-{
-    let mut letters = [0u8; 32];
-    octets::put(&mut letters, 0, name);
-    letters
-}
-
 // A unit in Idle with this setup and this name.
 fn new_unit(start: u16, end: u16, inactivity: u16, name: [u8; 32], letters: usize) -> Unit
     ensures { λ r. ⌜ r ≡ made start end inactivity name letters ⌝ }
@@ -163,7 +146,7 @@ pub fn setup(start: u16, end: u16, inactivity: u16, name: &[u8]) -> Turn
     ensures { λ r. ⌜ r ≡ setUp start end inactivity (now (name .entry)) ⌝ }
 {
     if sound::within_limits(start, end, inactivity, name.len()) {
-        let letters = name_of(name);
+        let letters = said::name_of(name);
         let unit = new_unit(start, end, inactivity, letters, name.len());
         return finished(unit, Pen { at: 0, lines: 0 });
     }

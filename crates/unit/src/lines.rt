@@ -1,13 +1,11 @@
 // Output lines, laid into the lent buffer one after the other.
 ghost use mathlib.Core.Path.{_≡_};
-ghost use mathlib.Core.List.{List, [], _∷_, _++_, map};
+ghost use mathlib.Core.List.{[], _∷_, _++_, map};
 ghost use Prim.Native.Nat.{_+_, _*_, _≤_, _<_, _/_, _%_};
 ghost use lib.ListN.{length, take};
 ghost use Rattle.octets.specs.Put.{Put};
 ghost use Rattle.frame.specs.Stripping.{bareTo};
 ghost use Rattle.said.specs.Pens.{Laid};
-ghost use Rattle.frame.specs.Encoding.{typeOctets};
-ghost use Rattle.frame.specs.Decoding.{octetIn};
 ghost use Rattle.said.specs.Notes.{noteOctets, answerLine};
 use frame::OneOctet;
 use said::Note;
@@ -73,17 +71,6 @@ pub(crate) fn put_kept(out: &mut [u8], pen: Pen, kept: [u8; 554], n: usize) -> P
     }
 }
 
-// How many octets a note takes.
-fn note_size(message_type: OneOctet, letters: usize) -> usize
-    requires { ⌜ letters ≤ 32 ⌝ }
-    ensures { λ r. ⌜ (r ≡ 5 + length (typeOctets (octetIn «message_type»)) + letters) × (r ≤ 6 + letters) ⌝ }
-{
-    let OneOctet::Octet(_) = message_type else {
-        return 5 + letters;
-    };
-    6 + letters
-}
-
 // A note's octets: reference and sender present, the type where there is one.
 fn put_note(out: &mut [u8], at: usize, note: Note, name: [u8; 32], letters: usize) -> usize
     requires { ⌜ (note .confirmation ≤ 4) × ((2 ≤ note .confirmation) × ((letters ≤ 32) × (at + 6 + letters ≤ length (now out)))) ⌝ }
@@ -118,7 +105,7 @@ pub(crate) fn put_noted(
     ensures { λ r. ⌜ (Laid (now (out .entry)) pen ((now (head .entry) ++ noteOctets note (take letters name)) ∷ []) (now (out .exit)) r) × (r .at ≤ pen .at + 8 + length (now (head .entry)) + letters) ⌝ }
 {
     let message_type = note.message_type;
-    let size = note_size(message_type, letters);
+    let size = said::before_name(message_type) + letters;
     let next = put_head(out, pen.at, head, size);
     let used = put_note(out, next, note, name, letters);
     Pen {

@@ -1,7 +1,8 @@
--- `unit::setup` meets its contract. Closed by laws of EntryLaws, one for each way out.
+-- `unit::setup` meets its contract. Closed by laws of SetupLaws, one for each way out.
 use mathlib.Core.Path.{sym, _∙_}
 use denote.Ref.{now}
-use Rattle.unit.proofs.EntryLaws.{set-up, not-set, within-name}
+use Rattle.turn_laws.proofs.Moved.{padded-sets}
+use Rattle.turn_laws.proofs.SetupLaws.{set-up, not-set, within-name}
 use borrow.Author.Needs.{needs}
 use Rattle.unit.proofs.setup.Statement.{statement}
 use Rattle.unit.proofs.setup.Tie as tie
@@ -10,7 +11,7 @@ within-limits-requires : tie.Need-within-limits-requires
 within-limits-requires c κs = search needs
 
 name-of-requires : tie.Need-name-of-requires
-name-of-requires c κs = within-name _ _ _ _ (sym (c .before .within-limits .ensures) ∙ c .if1 .taken)
+name-of-requires c κs = search needs
 
 new-unit-requires : tie.Need-new-unit-requires
 new-unit-requires c κs = search needs
@@ -19,7 +20,7 @@ finished-requires : tie.Need-finished-requires
 finished-requires c κs = search needs
 
 returns : tie.Need-returns
-returns c = set-up _ _ _ (now (c .before .before .before .before .before .before .args .name)) (c .before .before .before .before .within-limits .ensures) (c .before .before .before .if1 .taken) (c .before .before .name-of .ensures) (c .before .new-unit .ensures) (c .finished .ensures)
+returns c = set-up _ _ _ (now (c .before .before .before .before .before .before .args .name)) (c .before .before .before .before .within-limits .ensures) (c .before .before .before .if1 .taken) (c .before .before .name-of .ensures ∙ padded-sets 32 (now (c .before .before .before .before .before .before .args .name)) (within-name _ _ _ _ (sym (c .before .before .before .before .within-limits .ensures) ∙ c .before .before .before .if1 .taken))) (c .before .new-unit .ensures) (c .finished .ensures)
 
 new-unit-requires-2 : tie.Need-new-unit-requires-2
 new-unit-requires-2 c κs = search needs

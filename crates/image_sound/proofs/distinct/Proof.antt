@@ -1,0 +1,60 @@
+-- `image_sound::distinct` meets its contract. Closed by laws of SoundLaws: what is left of the list answers as the whole.
+use Prim.Native.Nat.{_-_, _≤_}
+use mathlib.Core.Path.{_≡_, refl}
+use lib.ListN.{take, drop, length}
+use Rattle.image.specs.Image.{unitOf}
+use Rattle.image.proofs.ReaderLaws.{eight-wait}
+use Rattle.image_sound.proofs.SoundLaws.{differ-stop, differ-on, differ-end}
+use Rattle.book.specs.Sound.{differ}
+use borrow.Author.Needs.{needs}
+use Rattle.image_sound.proofs.distinct.Statement.{statement}
+use Rattle.image_sound.proofs.distinct.Tie as tie
+
+abbrev Inv-loop : tie.InvT-loop
+Inv-loop u n i₀ i = differ (drop i (take n (unitOf u .waiting))) ≡ differ (take n (unitOf u .waiting))
+
+abbrev μ-loop : tie.MeasureT-loop
+μ-loop u n i₀ i = n - i
+
+loop-holds : tie.Need-loop-holds Inv-loop μ-loop
+loop-holds c = refl
+
+id-requires : tie.Need-id-requires Inv-loop μ-loop
+id-requires c κs = search needs
+
+add-among : tie.Need-add-among Inv-loop μ-loop
+add-among c = search needs
+
+among-requires : tie.Need-among-requires Inv-loop μ-loop
+among-requires c κs = search needs
+
+returns : tie.Need-returns Inv-loop μ-loop
+returns c = differ-stop (unitOf (c .before .before .before .before .before .before .args .u .now) .waiting) (c .before .before .before .before .before .before .args .n) (c .before .before .before .before .loop .i) (eight-wait _) (search needs) (c .before .before .before .before .loop .inv) (search needs) (c .before .before .id .ensures) (c .before .among .ensures) (c .if1 .taken)
+
+add-i : tie.Need-add-i Inv-loop μ-loop
+add-i c = search needs
+
+loop-less : tie.Need-loop-less Inv-loop μ-loop
+loop-less c = search needs
+
+loop-again : tie.Need-loop-again Inv-loop μ-loop
+loop-again c = differ-on (unitOf (c .before .before .before .before .before .before .args .u .now) .waiting) (c .before .before .before .before .before .before .args .n) (c .before .before .before .before .loop .i) (eight-wait _) (search needs) (c .before .before .before .before .loop .inv) (search needs) (c .before .before .id .ensures) (c .before .among .ensures) (c .if1 .left)
+
+returns-2 : tie.Need-returns-2 Inv-loop μ-loop
+returns-2 c = differ-end (unitOf (c .before .before .before .args .u .now) .waiting) (c .before .before .before .args .n) (c .before .loop .i) (eight-wait _) (search needs) (c .before .loop .inv) (search needs)
+
+pub distinct-spec : {M : Type 1} → statement M
+distinct-spec =
+    tie.close
+    (tie.spec
+    Inv-loop
+    μ-loop
+    loop-holds
+    id-requires
+    add-among
+    among-requires
+    returns
+    add-i
+    loop-less
+    loop-again
+    returns-2)
