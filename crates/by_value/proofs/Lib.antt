@@ -1,2 +1,4 @@
 pub mod CallLaws
+pub mod Bounds
+pub mod Agree
 pub mod OneResult
