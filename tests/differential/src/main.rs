@@ -1,12 +1,16 @@
-//! Differential test: random events through the proved unit (its static library, the unit as an image of 618 octets) and through the independent
-//! implementation. After each event everything is compared: the answer, the unit, and the lent buffer to its last octet, refusals included.
-//! It counts what was met and fails if a state, kind of line, refusal, reason or fault was not.
+//! Differential test: random events through the proved unit (its static library, the unit as an image of 618 octets), through the proved engine by value
+//! (the static library of `by_value`), and through the independent implementation. After each event everything is compared, of all three: the answer, the
+//! unit, and the lent buffer to its last octet, refusals included. It counts what was met and fails if a state, kind of line, refusal, reason or fault
+//! was not.
+//!   differential [EVENTS [AT [SIDE]]]     AT: for a trial of the test itself, the event at which an octet of an image is changed; SIDE: `embed` or `by_value`
 use drawn::{frame, Draw};
 use reference::unit::{handle, is_sound, setup, Unit};
+use std::ops::BitXorAssign;
 
 extern "C" {
     fn stelquorum_setup(image: *mut u8, length: usize, start: u16, end: u16, inactivity: u16, name: *const u8, letters: usize) -> u32;
     fn stelquorum_event(image: *mut u8, length: usize, event: *const u8, octets: usize, out: *mut u8, room: usize) -> u32;
+    fn stelquorum_by_value(image: *mut u8, length: usize, event: *const u8, octets: usize, out: *mut u8, room: usize) -> u8;
 }
 
 const IMAGE: usize = 618;
@@ -105,8 +109,9 @@ struct Met {
     unsound: u64,
     short: u64,
     setups: [u64; 2],
-    /// for a trial of the test itself: the event at which an octet of our image is changed
+    /// for a trial of the test itself: the event at which an octet of an image is changed, and whether it is the by-value engine's
     damaged: Option<u64>,
+    by_value: bool,
 }
 
 fn note(met: &mut Met, out: &[u8], count: usize) {
@@ -122,11 +127,13 @@ fn note(met: &mut Met, out: &[u8], count: usize) {
     }
 }
 
-/// One event to both, everything compared. True where it was taken.
+/// One event to all three, everything compared. True where it was taken.
 fn one(d: &mut Draw, met: &mut Met, u: &mut Unit, image: &mut [u8], ev: &[u8]) -> bool {
     let room = if d.chance(97) { 1024 } else { d.of(&[0, 1, 1023, 1025, 1500]) };
     let filled = d.next() as u8;
-    let (mut ours, mut theirs) = (vec![filled; room], vec![filled; room]);
+    let (mut ours, mut other, mut theirs) = (vec![filled; room], vec![filled; room], vec![filled; room]);
+    let mut held = image.to_vec();
+    let number = unsafe { stelquorum_by_value(held.as_mut_ptr(), held.len(), ev.as_ptr(), ev.len(), other.as_mut_ptr(), room) };
     let answer = unsafe { stelquorum_event(image.as_mut_ptr(), image.len(), ev.as_ptr(), ev.len(), ours.as_mut_ptr(), room) };
     let expected = match handle(u, ev, &mut theirs) {
         Ok((lines, octets)) => {
@@ -140,12 +147,19 @@ fn one(d: &mut Draw, met: &mut Met, u: &mut Unit, image: &mut [u8], ev: &[u8]) -
     };
     met.events += 1;
     if met.damaged == Some(met.events) {
-        image[602] ^= 1;
+        (if met.by_value { &mut held[602] } else { &mut image[602] }).bitxor_assign(1);
     }
     met.short += (room < 1024) as u64;
-    if answer != expected || image != &image_of(u)[..] || ours != theirs {
+    let next = image_of(u);
+    if answer != expected || image != &next[..] || ours != theirs {
         println!("differ at event {}: {ev:02x?}", met.events);
-        println!("answer {answer:#x}, expected {expected:#x}; image {}, buffer {}", image == &image_of(u)[..], ours == theirs);
+        println!("answer {answer:#x}, expected {expected:#x}; image {}, buffer {}", image == &next[..], ours == theirs);
+        std::process::exit(1);
+    }
+    let refusal = if expected < 0xffff_ff00 { 0 } else { expected as u8 };
+    if number != refusal || held != next || other != theirs {
+        println!("by value: differ at event {}: {ev:02x?}", met.events);
+        println!("answer {number}, expected {refusal}; image {}, buffer {}", held == next, other == theirs);
         std::process::exit(1);
     }
     answer < 0xffff_ff00
@@ -193,7 +207,8 @@ fn session(d: &mut Draw, met: &mut Met, events: usize) {
 fn main() {
     let total: u64 = std::env::args().nth(1).and_then(|s| s.parse().ok()).unwrap_or(1_000_000);
     let damaged = std::env::args().nth(2).and_then(|s| s.parse().ok());
-    let (mut d, mut met) = (Draw(0x9e37_79b9_7f4a_7c15), Met { damaged, ..Met::default() });
+    let by_value = std::env::args().nth(3).is_some_and(|side| side == "by_value");
+    let (mut d, mut met) = (Draw(0x9e37_79b9_7f4a_7c15), Met { damaged, by_value, ..Met::default() });
     while met.events < total {
         session(&mut d, &mut met, 400);
     }
@@ -202,7 +217,8 @@ fn main() {
         let (mut image, mut out) = (vec![7u8; n], vec![9u8; 1024]);
         let a = unsafe { stelquorum_setup(image.as_mut_ptr(), n, 60, 60, 300, b"G1".as_ptr(), 2) };
         let b = unsafe { stelquorum_event(image.as_mut_ptr(), n, [4].as_ptr(), 1, out.as_mut_ptr(), 1024) };
-        assert!((a, b) == (0xffff_ff06, 0xffff_ff09) && image == vec![7u8; n] && out == vec![9u8; 1024], "an image of {n} octets");
+        let c = unsafe { stelquorum_by_value(image.as_mut_ptr(), n, [4].as_ptr(), 1, out.as_mut_ptr(), 1024) };
+        assert!((a, b, c) == (0xffff_ff06, 0xffff_ff09, 9) && image == vec![7u8; n] && out == vec![9u8; 1024], "an image of {n} octets");
     }
     println!("{} events; states {:?}; refusals 1 to 9 {:?}; setups taken and refused {:?}", met.events, met.states, &met.refusals[1..], met.setups);
     println!("lines {}", met.lines.iter().map(|(kind, n)| format!("{kind:02x}: {n}")).collect::<Vec<_>>().join(", "));
