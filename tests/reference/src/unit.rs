@@ -38,8 +38,10 @@ const NOT_EXPECTED: u8 = 10;
 /// "at most eight distinct identifiers waiting".
 pub const PLACES: usize = 8;
 
-/// One end of a link. Places of arrays beyond their count are 0.
+/// One end of a link. Places of arrays beyond their count are 0. They come
+/// first, each where sixteen octets can be taken at once.
 #[derive(Clone, Copy, Debug, PartialEq, Eq)]
+#[repr(C, align(16))]
 pub struct Unit {
     pub name: [u8; 32],
     pub waiting: [u16; PLACES],
@@ -115,7 +117,7 @@ fn within_limits(unit: &Unit) -> bool {
         && unit.quiet != 0
         && unit.letters != 0
         && unit.letters <= unit.name.len()
-        && blank(&unit.name[unit.letters..])
+        && name_ends(&unit.name, unit.letters)
 }
 
 /// "Sound: setup within limits; state 0 to 4; [...] A field that the state
@@ -141,8 +143,8 @@ fn list_is_sound(unit: &Unit) -> bool {
     if unit.count > most {
         return false;
     }
-    let (used, unused) = unit.waiting.split_at(unit.count);
-    unused.iter().all(|&place| place == 0) && (1..used.len()).all(|i| !used[..i].contains(&used[i]))
+    let used = &unit.waiting[..unit.count];
+    list_ends(&unit.waiting, unit.count) && (1..used.len()).all(|i| !used[..i].contains(&used[i]))
 }
 
 /// "the kept frame of Start-multi is a valid edition 1 frame, maintained,
@@ -151,7 +153,7 @@ fn list_is_sound(unit: &Unit) -> bool {
 #[inline]
 fn kept_is_sound(unit: &Unit) -> bool {
     if unit.state != START_MULTI {
-        return unit.octets == 0 && blank(&unit.kept);
+        return unit.octets == 0 && all_blank(&unit.kept);
     }
     let Some(kept) = unit.kept.get(..unit.octets) else {
         return false;
@@ -191,6 +193,47 @@ fn limit(unit: &Unit) -> u16 {
 #[inline]
 fn blank(octets: &[u8]) -> bool {
     octets.iter().fold(0, |all, &octet| all | octet) == 0
+}
+
+/// Sixteen octets from a place on, as one number.
+#[inline]
+fn sixteen(octets: &[u8], at: usize) -> u128 {
+    u128::from_le_bytes(octets[at..at + 16].try_into().unwrap_or_default())
+}
+
+/// Every octet of a whole array 0, by sixteen; the last sixteen may overlap.
+#[inline]
+fn all_blank(octets: &[u8; EDITION_1]) -> bool {
+    let last = sixteen(octets, EDITION_1 - 16);
+    (0..EDITION_1 / 16).fold(last, |all, i| all | sixteen(octets, 16 * i)) == 0
+}
+
+/// 32 octets of zeros, then 32 of ones: from `32 - used` on, a mask of what
+/// comes after the first `used` octets.
+const AFTER: [u8; 64] = {
+    let mut octets = [0xff; 64];
+    let mut i = 0;
+    while i < 32 {
+        octets[i] = 0;
+        i += 1;
+    }
+    octets
+};
+
+/// Every octet of a name after its letters 0; there are at most 32.
+#[inline]
+fn name_ends(name: &[u8; 32], letters: usize) -> bool {
+    let from = 32 - letters;
+    sixteen(name, 0) & sixteen(&AFTER, from) | sixteen(name, 16) & sixteen(&AFTER, from + 16) == 0
+}
+
+/// Every place of the list after its identifiers 0; there are at most eight.
+#[inline]
+fn list_ends(list: &[u16; PLACES], count: usize) -> bool {
+    let four = |i: usize| {
+        u128::from(list[i]) | u128::from(list[i + 1]) << 16 | u128::from(list[i + 2]) << 32 | u128::from(list[i + 3]) << 48
+    };
+    (four(0) | four(4) << 64) & sixteen(&AFTER, 32 - 2 * count) == 0
 }
 
 /// An event whose form is right (refusal 8 is past).
