@@ -128,7 +128,7 @@ fn number(frame: &[u8], at: usize) -> u16 {
 /// Reads a frame in place: its header and the number of its extension
 /// fields, or its fault. "Reading is left to right and the first fault is the
 /// answer, but 11 is tested first and 15 straight after octet 1."
-#[inline]
+#[inline(always)]
 pub fn read(frame: &[u8]) -> Result<(Header, usize), u8> {
     if frame.len() > LONGEST {
         return Err(TOO_LONG);
@@ -320,7 +320,7 @@ pub fn write(parts: &Parts, out: &mut [u8]) -> Result<usize, u8> {
 
 /// Writes parts that are in range where there is room. "Fields of varying
 /// length are written straight after what is already in the frame."
-#[inline]
+#[inline(always)]
 pub(crate) fn put(parts: &Parts, out: &mut [u8]) -> usize {
     out[0] = flags(parts);
     out[1] = parts.confirmation;

@@ -662,7 +662,7 @@ struct Lines<'a> {
 impl Lines<'_> {
     /// One line: `head` (its kind and fixed part), then what `body` puts into
     /// the room it is lent, which says how many octets those are.
-    #[inline]
+    #[inline(always)]
     fn push<const N: usize>(&mut self, head: [u8; N], body: impl FnOnce(&mut [u8]) -> usize) {
         let room = &mut self.out[self.used..];
         room[2..2 + N].copy_from_slice(&head);
