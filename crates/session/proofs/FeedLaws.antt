@@ -14,25 +14,27 @@ use Rattle.octets.specs.Choice.{pick, either}
 use Rattle.octets.specs.Put.{Put}
 use Rattle.octets.proofs.Puts as Puts
 use Rattle.text.specs.Reading.{toFeed, eventIn}
+use Rattle.image.specs.Image.{imageOf}
+use Rattle.image.proofs.RoundTrip.{image-back}
 use Rattle.session.specs.Listing.{text, answerTo}
-use Rattle.session.specs.Feeding.{Taken, heard, passingOver, lineTaken, most, Feeding, resting, then, feeding, Feeds}
-use Rattle.session.specs.Walking.{Takes, shifted}
+use Rattle.session.specs.Feeding.{Standing, standing, Taken, heard, passingOver, lineTaken, most, Feeding, resting, then, feeding, Feeds}
+use Rattle.session.specs.Walking.{Takes, shifted, Octets, Gone}
 use Rattle.session.specs.declared.Session.{Session}
 use Rattle.session.specs.declared.Fed.{Fed}
 
 -- ---- one line
 
 -- nothing was taken
-abbrev pub untaken : Session → Taken
+abbrev pub untaken : Standing → Taken
 untaken s = record { session = s; taken = 0; lines = [] }
 
 -- the three ways of a line: it has its line feed; it is passed over, as far as it stands; it is left for later
-pub data How (s : Session) (i : List ℕ) : Taken → Type 0 where
+pub data How (s : Standing) (i : List ℕ) : Taken → Type 0 where
   ended : toFeed i < length i → How s i (heard (toFeed i + 1) (answerTo (s .phase) (s .unit) (pick (s .passing) none (eventIn (take (toFeed i) i)))))
   over : length i ≤ toFeed i → either (s .passing) (ltb 4096 (length i)) ≡ true → How s i (record { session = passingOver s; taken = length i; lines = [] })
   left : length i ≤ toFeed i → s .passing ≡ false → length i ≤ 4096 → How s i (untaken s)
 
-pub how : (s : Session) (i : List ℕ) → How s i (lineTaken s i)
+pub how : (s : Standing) (i : List ℕ) → How s i (lineTaken s i)
 unfolding lineTaken
 how s i = go (ltb (toFeed i) (length i)) refl (s .passing) refl (ltb 4096 (length i)) refl
   where
@@ -45,16 +47,16 @@ how s i = go (ltb (toFeed i) (length i)) refl (s .passing) refl (ltb 4096 (lengt
     go false e false q false r = left (ltb-false (toFeed i) (length i) (sym e)) (sym q) (ltb-false 4096 (length i) (sym r))
 
 -- no more is taken than is there
-within : (s : Session) (i : List ℕ) (t : Taken) → How s i t → t .taken ≤ length i
+within : (s : Standing) (i : List ℕ) (t : Taken) → How s i t → t .taken ≤ length i
 within s i t (ended h) = omega arith
 within s i t (over h e) = omega arith
 within s i t (left h e k) = omega arith
 
-pub taken-within : (s : Session) (i : List ℕ) → lineTaken s i .taken ≤ length i
+pub taken-within : (s : Standing) (i : List ℕ) → lineTaken s i .taken ≤ length i
 taken-within s i = within s i (lineTaken s i) (how s i)
 
 -- what takes nothing changes nothing
-none-left : (s : Session) (i : List ℕ) (t : Taken) → How s i t → t .taken ≡ 0 → t ≡ untaken s
+none-left : (s : Standing) (i : List ℕ) (t : Taken) → How s i t → t .taken ≡ 0 → t ≡ untaken s
 none-left s i t (ended h) z = absurd (omega arith)
 none-left s i t (over h e) z = go (s .passing) refl e
   where
@@ -63,7 +65,7 @@ none-left s i t (over h e) z = go (s .passing) refl e
     go false q g = let l = ltb-true 4096 (length i) g in absurd (omega arith)
 none-left s i t (left h e k) z = refl
 
-pub taken-none : (s : Session) (i : List ℕ) → lineTaken s i .taken ≡ 0 → lineTaken s i ≡ untaken s
+pub taken-none : (s : Standing) (i : List ℕ) → lineTaken s i .taken ≡ 0 → lineTaken s i ≡ untaken s
 taken-none s i = none-left s i (lineTaken s i) (how s i)
 
 -- ---- the line where the input stands
@@ -71,21 +73,21 @@ taken-none s i = none-left s i (lineTaken s i) (how s i)
 stands : (i : List ℕ) (from : ℕ) → take (length i - from) (drop from i) ≡ drop from i
 stands i from = take-all (length i - from) (drop from i) (omega (arith, length-drop from i))
 
-module _ (s : Session) (i : List ℕ) (from : ℕ) {out after : List ℕ} {at : ℕ} {r : Fed}
-    (t : Takes (lineTaken s (take (length i - from) (drop from i))) out at after r) where
+module _ (s : Standing) (i : List ℕ) (from : ℕ) {out image after : List ℕ} {at : ℕ} {r : Fed}
+    (t : Takes (lineTaken s (take (length i - from) (drop from i))) out at image after r) where
   pub after-within : from ≤ length i → from + r .taken ≤ length i
   after-within h =
       let e : r .taken ≡ lineTaken s (drop from i) .taken = rw (stands i from) at (t .taken) in
       omega (arith, taken-within s (drop from i), length-drop from i)
 
-  pub after-takes : Takes (shifted from (lineTaken s (drop from i))) out at after (record { session = r .session; taken = from + r .taken; written = r .written })
+  pub after-takes : Takes (shifted from (lineTaken s (drop from i))) out at image after (record { session = r .session; taken = from + r .taken; written = r .written })
   after-takes =
-      let k : Takes (lineTaken s (drop from i)) out at after r = rw (stands i from) at t in
+      let k : Takes (lineTaken s (drop from i)) out at image after r = rw (stands i from) at t in
       record { session = k .session; taken = ap (λ n. from + n) (k .taken); put = k .put; small = k .small }
 
 -- ---- one line after the other
 
-idle-feeding : (n room : ℕ) (s : Session) (i : List ℕ) → lineTaken s i ≡ untaken s → feeding n room s i ≡ resting s
+idle-feeding : (n room : ℕ) (s : Standing) (i : List ℕ) → lineTaken s i ≡ untaken s → feeding n room s i ≡ resting s
 unfolding feeding text
 idle-feeding zero room s i e = refl
 idle-feeding (suc n) room s i e = go (idle-feeding n (room - 0) s i e) (ltb room most)
@@ -95,12 +97,12 @@ idle-feeding (suc n) room s i e = go (idle-feeding n (room - 0) s i e) (ltb room
     go again true = refl
     go again false = rw (e, again)
 
-full-feeding : (n room : ℕ) (s : Session) (i : List ℕ) → ltb room most ≡ true → feeding n room s i ≡ resting s
+full-feeding : (n room : ℕ) (s : Standing) (i : List ℕ) → ltb room most ≡ true → feeding n room s i ≡ resting s
 unfolding feeding
 full-feeding zero room s i e = refl
 full-feeding (suc n) room s i e = rw e
 
-next-feeding : (n room : ℕ) (s : Session) (i : List ℕ) → 0 < n → ltb room most ≡ false
+next-feeding : (n room : ℕ) (s : Standing) (i : List ℕ) → 0 < n → ltb room most ≡ false
     → feeding n room s i
     ≡ then (lineTaken s i) (feeding (n - 1) (room - length (text (lineTaken s i .lines))) (lineTaken s i .session) (drop (lineTaken s i .taken) i))
 unfolding feeding
@@ -108,18 +110,18 @@ next-feeding zero room s i h e = absurd (omega arith)
 next-feeding (suc n) room s i h e = let z : suc n - 1 ≡ n = omega arith in rw (e, z)
 
 -- some lines are taken: those that are left make up the whole
-pub record Going (s : Session) (i out₀ : List ℕ) (fed : Fed) (out : List ℕ) (left : ℕ) : Type 0 where
+pub record Going (s : Standing) (i out₀ : List ℕ) (fed : Fed) (image out : List ℕ) (left : ℕ) : Type 0 where
   pub shown : List ℕ
   pub put : Put out₀ 0 shown out (fed .written)
-  pub session : feeding (length i) (length out₀) s i .session ≡ feeding left (length out₀ - fed .written) (fed .session) (drop (fed .taken) i) .session
-  pub taken : feeding (length i) (length out₀) s i .taken ≡ fed .taken + feeding left (length out₀ - fed .written) (fed .session) (drop (fed .taken) i) .taken
-  pub written : feeding (length i) (length out₀) s i .written ≡ shown ++ feeding left (length out₀ - fed .written) (fed .session) (drop (fed .taken) i) .written
+  pub session : feeding (length i) (length out₀) s i .session ≡ feeding left (length out₀ - fed .written) (standing (fed .session) image) (drop (fed .taken) i) .session
+  pub taken : feeding (length i) (length out₀) s i .taken ≡ fed .taken + feeding left (length out₀ - fed .written) (standing (fed .session) image) (drop (fed .taken) i) .taken
+  pub written : feeding (length i) (length out₀) s i .written ≡ shown ++ feeding left (length out₀ - fed .written) (standing (fed .session) image) (drop (fed .taken) i) .written
   pub inside : fed .taken ≤ length i
   pub room : fed .written ≤ length out₀
   pub wide : length out ≡ length out₀
 
-pub going-start : (s : Session) (i out : List ℕ) → Going s i out (record { session = s; taken = 0; written = 0 }) out (length i)
-going-start s i out =
+pub going-start : (s : Session) (i image out : List ℕ) → Going (standing s image) i out (record { session = s; taken = 0; written = 0 }) image out (length i)
+going-start s i image out =
     let z : length out - 0 ≡ length out = omega arith in
     record {
       shown = [];
@@ -132,12 +134,12 @@ going-start s i out =
       wide = refl;
     }
 
-module _ {s : Session} {i out₀ out : List ℕ} {fed : Fed} {left : ℕ} (g : Going s i out₀ fed out left) where
+module _ {s : Standing} {i out₀ image out : List ℕ} {fed : Fed} {left : ℕ} (g : Going s i out₀ fed image out left) where
   abbrev rest : Feeding
-  rest = feeding left (length out₀ - fed .written) (fed .session) (drop (fed .taken) i)
+  rest = feeding left (length out₀ - fed .written) (standing (fed .session) image) (drop (fed .taken) i)
 
   -- nothing more comes
-  stops : rest ≡ resting (fed .session) → Feeds s i out₀ fed out
+  stops : rest ≡ resting (standing (fed .session) image) → Gone s i out₀ fed image out
   stops e = record {
     session = sym (g .session ∙ ap (λ f. f .session) e);
     taken = sym (g .taken ∙ ap (λ f. fed .taken + f .taken) e ∙ add-zero (fed .taken));
@@ -146,27 +148,27 @@ module _ {s : Session} {i out₀ out : List ℕ} {fed : Fed} {left : ℕ} (g : G
     fits = g .room;
   }
 
-  pub going-end : left ≤ 0 → Feeds s i out₀ fed out
+  pub going-end : left ≤ 0 → Gone s i out₀ fed image out
   unfolding feeding
   going-end h = let z : left ≡ 0 = omega arith in stops (rw z)
 
-  pub going-full : true ≡ ltb (length out - fed .written) most → Feeds s i out₀ fed out
-  going-full e = stops (full-feeding left (length out₀ - fed .written) (fed .session) (drop (fed .taken) i) (rw (g .wide) at (sym e)))
+  pub going-full : true ≡ ltb (length out - fed .written) most → Gone s i out₀ fed image out
+  going-full e = stops (full-feeding left (length out₀ - fed .written) (standing (fed .session) image) (drop (fed .taken) i) (rw (g .wide) at (sym e)))
 
   pub going-fits : false ≡ ltb (length out - fed .written) most → fed .written + most ≤ length out
   going-fits e = let h = ltb-false (length out - fed .written) most (sym e) in omega (arith, g .wide, g .room)
 
-  module _ {next : Fed} {after : List ℕ}
-      (t : Takes (shifted (fed .taken) (lineTaken (fed .session) (drop (fed .taken) i))) out (fed .written) after next) where
+  module _ {next : Fed} {image' after : List ℕ}
+      (t : Takes (shifted (fed .taken) (lineTaken (standing (fed .session) image) (drop (fed .taken) i))) out (fed .written) image' after next) where
     abbrev line : Taken
-    line = lineTaken (fed .session) (drop (fed .taken) i)
+    line = lineTaken (standing (fed .session) image) (drop (fed .taken) i)
 
     -- a line that takes nothing is the last
-    pub going-none : next .taken ≡ fed .taken → Feeds s i out₀ next after
+    pub going-none : next .taken ≡ fed .taken → Gone s i out₀ next image' after
     unfolding text
     going-none e =
-        let idle : line ≡ untaken (fed .session) = taken-none (fed .session) (drop (fed .taken) i) (omega (arith, t .taken)) in
-        let f = stops (idle-feeding left (length out₀ - fed .written) (fed .session) (drop (fed .taken) i) idle) in
+        let idle : line ≡ untaken (standing (fed .session) image) = taken-none (standing (fed .session) image) (drop (fed .taken) i) (omega (arith, t .taken)) in
+        let f = stops (idle-feeding left (length out₀ - fed .written) (standing (fed .session) image) (drop (fed .taken) i) idle) in
         let p : Put out (fed .written) [] after (next .written) = rw idle at (t .put) in
         record {
           session = t .session ∙ ap (λ (x : Taken). x .session) idle ∙ f .session;
@@ -182,23 +184,37 @@ module _ {s : Session} {i out₀ out : List ℕ} {fed : Fed} {left : ℕ} (g : G
 
       -- what is left after this line
       onward : feeding (left - 1) (length out₀ - fed .written - length (text (line .lines))) (line .session) (drop (line .taken) (drop (fed .taken) i))
-          ≡ feeding (left - 1) (length out₀ - next .written) (next .session) (drop (next .taken) i)
+          ≡ feeding (left - 1) (length out₀ - next .written) (standing (next .session) image') (drop (next .taken) i)
       onward =
           let a : length out₀ - fed .written - length (text (line .lines)) ≡ length out₀ - next .written = omega (arith, t .put .place) in
           rw (a, drop-drop (line .taken) (fed .taken) i, t .taken, t .session)
 
-      now-next : rest ≡ then line (feeding (left - 1) (length out₀ - next .written) (next .session) (drop (next .taken) i))
+      now-next : rest ≡ then line (feeding (left - 1) (length out₀ - next .written) (standing (next .session) image') (drop (next .taken) i))
       now-next =
-          next-feeding left (length out₀ - fed .written) (fed .session) (drop (fed .taken) i) more (rw (g .wide) at (sym fits)) ∙ ap (then line) onward
+          next-feeding left (length out₀ - fed .written) (standing (fed .session) image) (drop (fed .taken) i) more (rw (g .wide) at (sym fits)) ∙ ap (then line) onward
 
-      pub going-step : Going s i out₀ next after (left - 1)
+      pub going-step : Going s i out₀ next image' after (left - 1)
       going-step = record {
         shown = g .shown ++ text (line .lines);
         put = Puts.then (g .put) (t .put);
         session = g .session ∙ ap (λ f. f .session) now-next;
         taken = g .taken ∙ ap (λ f. fed .taken + f .taken) now-next ∙ (omega (arith, t .taken));
         written = g .written ∙ ap (λ f. g .shown ++ f .written) now-next ∙ sym (append-assoc (g .shown) (text (line .lines)) _);
-        inside = omega (arith, t .taken, taken-within (fed .session) (drop (fed .taken) i), length-drop (fed .taken) i, g .inside);
+        inside = omega (arith, t .taken, taken-within (standing (fed .session) image) (drop (fed .taken) i), length-drop (fed .taken) i, g .inside);
         room = omega (arith, t .small, roomy);
         wide = ap length (t .put .held) ∙ length-sets out (fed .written) (text (line .lines)) ∙ g .wide;
       }
+
+-- ---- the image
+
+-- its octets are those of the unit that it stands for
+pub feeds : {s : Standing} {i before : List ℕ} {r : Fed} {image after : List ℕ} → length image ≡ 618 → Octets image
+    → Gone s i before r image after → Feeds s i before r image after
+feeds {s} {i} {before} {r} {image} {after} e small g = record {
+  session = g .session;
+  image = sym (image-back image e (small .small)) ∙ ap (λ (x : Standing). imageOf (x .unit)) (g .session);
+  taken = g .taken;
+  put = g .put;
+  within = g .within;
+  fits = g .fits;
+}

@@ -3,7 +3,7 @@ use Prim.Native.Nat.{ℕ, _+_, _-_, _<_, _≤_}
 use mathlib.Core.Path.{_≡_, refl, ap, sym, _∙_}
 use mathlib.Core.Bool.{Bool, true, false}
 use mathlib.Core.Option.{none, some}
-use mathlib.Core.List.{List, [], append-nil}
+use mathlib.Core.List.{List, []}
 use native.Mathlib.Omega.{arith}
 use borrow.Author.Tests.{le-ltb, lt-ltb, ltb-false}
 use lib.Dec.{ltb}
@@ -17,37 +17,33 @@ use Rattle.text.specs.declared.Line.{Line}
 use Rattle.text.specs.declared.Line.the-variants.{Octets, Refused, Open}
 use Rattle.text.proofs.FeedLaws.{leading-cut}
 use Rattle.text.proofs.Found.{event-is, Found, octets, refused, unended, found, found-octets}
-use Rattle.book.specs.declared.Unit.{Unit as Value}
-use Rattle.session.specs.Listing.{text, answerTo, atEnd, listed}
-use Rattle.session.specs.Feeding.{Taken, heard, passingOver, notEnded, lineTaken, most, finishing}
+use Rattle.session.specs.Listing.{text, answerTo, listed}
+use Rattle.session.specs.Feeding.{Standing, standing, heard, passingOver, notEnded, lineTaken, most, lastLine, finishing}
 use Rattle.session.specs.Walking.{LineRead, Takes, leftAt}
-use Rattle.session.specs.declared.Phase.{Phase}
-use Rattle.session.specs.declared.Phase.the-variants.{First, Running, Stopped}
 use Rattle.session.specs.declared.Session.{Session}
 use Rattle.session.specs.declared.Fed.{Fed}
 
 -- ---- a line without its line feed
 
 pub left-over : (s : Session) (i : List ℕ) (at : ℕ) → either (s .passing) (ltb 4096 (length i)) ≡ true
-    → record { session = record { unit = s .unit; phase = s .phase; passing = true }; taken = length i; written = at } ≡ leftAt (notEnded s i) at
+    → record { session = record { phase = s .phase; passing = true }; taken = length i; written = at } ≡ leftAt s i at
 left-over s i at e = rw e
 
 pub left-later : (s : Session) (i : List ℕ) (at : ℕ) → either (s .passing) (ltb 4096 (length i)) ≡ false
-    → record { session = s; taken = 0; written = at } ≡ leftAt (notEnded s i) at
+    → record { session = s; taken = 0; written = at } ≡ leftAt s i at
 left-later s i at e = rw e
 
-quiet : (s : Session) (i : List ℕ) → notEnded s i .lines ≡ []
-quiet s i = go (either (s .passing) (ltb 4096 (length i)))
-  where
-    go : (x : Bool) → pick {A = Taken} x (record { session = passingOver s; taken = length i; lines = [] }) (record { session = s; taken = 0; lines = [] }) .lines ≡ []
-    go true = refl
-    go false = refl
-
 -- it prints nothing
-pub left-takes : (s : Session) (i out : List ℕ) (at : ℕ) (r : Fed) → lineTaken s i ≡ notEnded s i → r ≡ leftAt (notEnded s i) at → Takes (lineTaken s i) out at out r
+pub left-takes : (s : Session) (i image out : List ℕ) (at : ℕ) (r : Fed) → lineTaken (standing s image) i ≡ notEnded (standing s image) i → r ≡ leftAt s i at
+    → Takes (lineTaken (standing s image) i) out at image out r
 unfolding text
-left-takes s i out at r e f =
-    rw (e, f) (record { session = refl; taken = refl; put = Puts.put-as (ap text (sym (quiet s i))) (Puts.none out at); small = omega arith })
+left-takes s i image out at r e f = rw (e, f) (go (either (s .passing) (ltb 4096 (length i))))
+  where
+    go : (x : Bool)
+        → Takes (pick x (record { session = passingOver (standing s image); taken = length i; lines = [] }) (record { session = standing s image; taken = 0; lines = [] })) out at image out
+        (pick x (record { session = record { phase = s .phase; passing = true }; taken = length i; written = at }) (record { session = s; taken = 0; written = at }))
+    go true = record { session = refl; taken = refl; put = Puts.none out at; small = omega arith }
+    go false = record { session = refl; taken = refl; put = Puts.none out at; small = omega arith }
 
 -- ---- a line that is passed over
 
@@ -55,12 +51,12 @@ feed-is : (i : List ℕ) (e : ℕ) → e ≡ feedFrom i 0 → e ≡ toFeed i
 unfolding feedFrom
 feed-is i e h = omega arith
 
-pub pass-ended : (s : Session) (i : List ℕ) (e : ℕ) → true ≡ s .passing → e ≡ feedFrom i 0 → e < length i
+pub pass-ended : (s : Standing) (i : List ℕ) (e : ℕ) → true ≡ s .passing → e ≡ feedFrom i 0 → e < length i
     → lineTaken s i ≡ heard (e + 1) (answerTo (s .phase) (s .unit) none)
 unfolding lineTaken
 pass-ended s i e p h k = let f = feed-is i e h in rw (lt-ltb (toFeed i) (length i) (omega arith), ← p, f)
 
-pub pass-open : (s : Session) (i : List ℕ) (e : ℕ) → e ≡ feedFrom i 0 → length i ≤ e → lineTaken s i ≡ notEnded s i
+pub pass-open : (s : Standing) (i : List ℕ) (e : ℕ) → e ≡ feedFrom i 0 → length i ≤ e → lineTaken s i ≡ notEnded s i
 unfolding lineTaken
 pass-open s i e h k = let f = feed-is i e h in rw (le-ltb (toFeed i) (length i) (omega arith))
 
@@ -69,7 +65,7 @@ pass-open s i e h k = let f = feed-is i e h in rw (le-ltb (toFeed i) (length i) 
 pub line-reads : (i : List ℕ) (r : Line) (e₀ e : List ℕ) → length e₀ ≡ 2048 → r ≡ lineIn i → e ≡ sets e₀ 0 (leading i) → LineRead i r e
 line-reads i r e₀ e w q g = record { line = q; octets = λ n next k. found-octets i (lineIn i) (found i) n next (sym q ∙ k) e₀ e w g }
 
-module _ (s : Session) (i : List ℕ) where
+module _ (s : Standing) (i : List ℕ) where
   taken-octets : (l : Line) → Found i l → (n next : ℕ) → l ≡ Octets n next → false ≡ s .passing
       → lineTaken s i ≡ heard next (answerTo (s .phase) (s .unit) (some (leading i)))
   unfolding lineTaken
@@ -107,16 +103,10 @@ module _ (s : Session) (i : List ℕ) where
 
 -- ---- the input's end
 
-ends : (p : Phase) (u : Value) → atEnd (answerTo p u none .phase) ≡ []
-unfolding answerTo
-ends First u = refl
-ends Running u = refl
-ends Stopped u = refl
-
 pub finish-room : (n : ℕ) → false ≡ ltb (n - 0) most → 0 + most ≤ n
 finish-room n e = let h = ltb-false (n - 0) most (sym e) in omega arith
 
-module _ (s : Session) (held out : List ℕ) where
+module _ (s : Standing) (held out : List ℕ) where
   pub finish-full : true ≡ ltb (length out - 0) most → (Put out 0 (finishing (length out) s held) out 0) × (0 ≤ length out)
   unfolding finishing
   finish-full e = let z : length out - 0 ≡ length out = omega arith in (rw (← z, ← e) (Puts.none out 0), omega arith)
@@ -125,16 +115,7 @@ module _ (s : Session) (held out : List ℕ) where
     room : ltb (length out) most ≡ false
     room = let z : length out - 0 ≡ length out = omega arith in rw z at (sym fits)
 
-    pub finish-open : (after : List ℕ) (r : Fed) → either (s .passing) (ltb 0 (length held)) ≡ true
-        → Takes (heard 0 (answerTo (s .phase) (s .unit) none)) out 0 after r
-        → (Put out 0 (finishing (length out) s held) after (r .written)) × (r .written ≤ length out)
-    unfolding finishing listed
-    finish-open after r o t = (
-      rw (room, o, ends (s .phase) (s .unit), append-nil (text (answerTo (s .phase) (s .unit) none .lines))) (t .put),
-      omega (arith, t .small, finish-room (length out) fits),
-    )
-
-    pub finish-shut : (after : List ℕ) (r : ℕ) → either (s .passing) (ltb 0 (length held)) ≡ false
-        → Put out 0 (atEnd (s .phase)) after r → r ≤ 5 → (Put out 0 (finishing (length out) s held) after r) × (r ≤ length out)
-    unfolding finishing listed
-    finish-shut after r o p k = (rw (room, o) p, omega (arith, finish-room (length out) fits))
+    pub finish-listed : {after : List ℕ} {r : ℕ} (left : Bool) → left ≡ either (s .passing) (ltb 0 (length held))
+        → Put out 0 (listed (s .phase) (s .unit) (lastLine left)) after r → r ≤ most → (Put out 0 (finishing (length out) s held) after r) × (r ≤ length out)
+    unfolding finishing
+    finish-listed left e p k = (rw room (rw e at p), omega (arith, finish-room (length out) fits))

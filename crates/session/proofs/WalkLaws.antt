@@ -13,13 +13,13 @@ use Rattle.text.specs.Printing.{digitsOf, printed, fits, printedIn}
 use Rattle.text.proofs.PrintLaws.{digits-long}
 use Rattle.book.specs.Book.{Outcome, refused, done, Out}
 use Rattle.book.specs.Lines.{lineOf, laid, laidOut}
-use Rattle.book.specs.Step.{turnOf, octetsOf, Turned}
+use Rattle.book.specs.Step.{turnOf, octetsOf}
 use Rattle.book.specs.declared.Unit.{Unit as Value}
-use Rattle.book.specs.declared.Turn.{Turn}
 use Rattle.book.specs.declared.Verdict.{Verdict}
 use Rattle.book.specs.declared.Verdict.the-variants.{Done, Refused}
+use Rattle.image.specs.Image.{unitOf}
 use Rattle.session.specs.Listing.{text, refusalLine}
-use Rattle.session.specs.Walking.{lengthAt, linesIn, sizeOf, verdictLines, verdictSize, Handled}
+use Rattle.session.specs.Walking.{lengthAt, linesIn, sizeOf, verdictLines, verdictSize, Lays}
 
 -- ---- one line
 
@@ -188,10 +188,10 @@ count-lines : (os : List Out) → length (map lineOf os) ≡ length os
 count-lines [] = refl
 count-lines (o ∷ os) = ap suc (count-lines os)
 
-pub shows : (u : Value) (o : Outcome) (before after : List ℕ) (r : Turn) → Turned u o before r after → 1024 ≤ length before → length (octetsOf o) ≤ 1024
-    → Handled u o r after
+pub shows : (u : Value) (o : Outcome) (before after image : List ℕ) (r : Verdict) → r ≡ turnOf u o .verdict → unitOf image ≡ turnOf u o .unit
+    → after ≡ sets before 0 (octetsOf o) → 1024 ≤ length before → length (octetsOf o) ≤ 1024 → Lays u o r image after
 unfolding turnOf octetsOf laidOut
-shows u (refused n) before after r t w h = rw (t .result) (record { lines = refl; size = omega arith; unit = refl })
-shows u (done st os) before after r t w h =
-    let l = lies (map lineOf os) before after (t .buffer) (omega arith) in
-    rw (t .result) (record { lines = rw (count-lines os) at (l .0); size = let z = rw (count-lines os) at (l .1) in omega arith; unit = refl })
+shows u (refused n) before after image r e f b w h = rw e (record { lines = refl; size = omega arith; unit = f })
+shows u (done st os) before after image r e f b w h =
+    let l = lies (map lineOf os) before after b (omega arith) in
+    rw e (record { lines = rw (count-lines os) at (l .0); size = let z = rw (count-lines os) at (l .1) in omega arith; unit = f })

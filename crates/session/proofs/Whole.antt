@@ -13,12 +13,13 @@ use lib.ListN.{length, take, drop, length-append, length-drop}
 use lib.Seq.{drop-drop, drop-length}
 use Rattle.octets.specs.Choice.{pick, both, either}
 use Rattle.text.specs.Reading.{leading, toFeed, eventIn}
+use Rattle.book.specs.Step.{blank}
 use Rattle.book.specs.declared.Unit.{Unit as Value}
+use Rattle.image.specs.Image.{unitOf}
 use Rattle.session.specs.Listing.{text, eventsFrom, answerTo, listed, listing}
-use Rattle.session.specs.Feeding.{fresh, Taken, lineTaken, most, Feeding, resting, then, feeding, lastEvents, finishing}
+use Rattle.session.specs.Feeding.{Standing, standing, fresh, unheard, Taken, lineTaken, most, Feeding, resting, then, feeding, lastEvents, finishing}
 use Rattle.session.specs.Runs.{Run, read, fed, finished, stopped}
-use Rattle.session.specs.declared.Phase.the-variants.{Stopped}
-use Rattle.session.specs.declared.Session.{Session}
+use Rattle.session.specs.declared.Phase.the-variants.{First, Stopped}
 use Rattle.session.proofs.FeedLaws.{How, ended, over, left, how}
 
 -- ---- what is still to come
@@ -33,7 +34,7 @@ coming false i = eventsFrom [] i
 coming true i = passed i
 
 -- the output of a session whose input is still to come
-abbrev pub whole : Session → List ℕ → List ℕ
+abbrev pub whole : Standing → List ℕ → List ℕ
 whole s i = listed (s .phase) (s .unit) (coming (s .passing) i)
 
 -- ---- a line's end
@@ -109,7 +110,7 @@ long-passed line (c ∷ more) h = go (long-passed (line ++ (c ∷ [])) more) (eq
 -- ---- one line
 
 -- what a line prints, and then what is still to come, is what was to come
-pub line-whole : (s : Session) (i more : List ℕ) (t : Taken) → How s i t → whole s (i ++ more) ≡ text (t .lines) ++ whole (t .session) (drop (t .taken) i ++ more)
+pub line-whole : (s : Standing) (i more : List ℕ) (t : Taken) → How s i t → whole s (i ++ more) ≡ text (t .lines) ++ whole (t .session) (drop (t .taken) i ++ more)
 unfolding listed text
 line-whole s i more t (ended h) = go (s .passing) refl
   where
@@ -130,7 +131,7 @@ line-whole s i more t (left h e k) = refl
 
 -- ---- all lines for which there is room
 
-feeding-whole : (n room : ℕ) (s : Session) (i more : List ℕ)
+feeding-whole : (n room : ℕ) (s : Standing) (i more : List ℕ)
     → whole s (i ++ more) ≡ feeding n room s i .written ++ whole (feeding n room s i .session) (drop (feeding n room s i .taken) i ++ more)
 unfolding feeding
 feeding-whole zero room s i more = refl
@@ -159,11 +160,11 @@ unfolding listed text answerTo
 no-more u [] = refl
 no-more u (e ∷ es) = no-more u es
 
-stopped-whole : (s : Session) (i : List ℕ) → s .phase ≡ Stopped → whole s i ≡ []
+stopped-whole : (s : Standing) (i : List ℕ) → s .phase ≡ Stopped → whole s i ≡ []
 stopped-whole s i e = rw e (no-more (s .unit) (coming (s .passing) i))
 
 -- a line that takes nothing is open, and is the last
-left-events : (s : Session) (held : List ℕ) (t : Taken) → How s held t → t .taken ≡ 0 → coming (s .passing) held ≡ lastEvents s held
+left-events : (s : Standing) (held : List ℕ) (t : Taken) → How s held t → t .taken ≡ 0 → coming (s .passing) held ≡ lastEvents s held
 unfolding eventsFrom
 left-events s held t (ended h) e = absurd (omega arith)
 left-events s [] t (over h o) e = go (s .passing) o
@@ -177,7 +178,7 @@ left-events s (c ∷ held) t (left h p k) e =
     let j = joined [] (c ∷ held) [] h in
     rw (p, lt-ltb 0 (suc (length held)) (omega arith)) (ap (eventsFrom []) (sym (append-nil (c ∷ held))) ∙ j)
 
-none-events : (s : Session) (held : List ℕ) (room : ℕ) → most ≤ room → feeding (length held) room s held .taken ≡ 0 → coming (s .passing) held ≡ lastEvents s held
+none-events : (s : Standing) (held : List ℕ) (room : ℕ) → most ≤ room → feeding (length held) room s held .taken ≡ 0 → coming (s .passing) held ≡ lastEvents s held
 unfolding feeding eventsFrom
 none-events s [] room h e = go (s .passing)
   where
@@ -188,14 +189,14 @@ none-events s (c ∷ held) room h e =
     let f = rw (le-ltb room most h) at e in
     left-events s (c ∷ held) (lineTaken s (c ∷ held)) (how s (c ∷ held)) (omega arith)
 
-finished-whole : (s : Session) (held : List ℕ) (room last : ℕ) → most ≤ room → feeding (length held) room s held .taken ≡ 0 → most ≤ last
+finished-whole : (s : Standing) (held : List ℕ) (room last : ℕ) → most ≤ room → feeding (length held) room s held .taken ≡ 0 → most ≤ last
     → finishing last s held ≡ whole s held
 unfolding finishing
 finished-whole s held room last h e k = rw (le-ltb last most k) (ap (listed (s .phase) (s .unit)) (sym (none-events s held room h e)))
 
 -- ---- the theorem
 
-pub run-whole : {s : Session} {held input output : List ℕ} → Run s held input output → output ≡ whole s (held ++ input)
+pub run-whole : {s : Standing} {held input output : List ℕ} → Run s held input output → output ≡ whole s (held ++ input)
 run-whole (read {s} {held} {input} {output} block r) = run-whole r ∙ ap (whole s) (append-assoc held block input)
 run-whole (fed {s} {held} {input} {output} room r) =
     ap (λ l. feeding (length held) room s held .written ++ l) (run-whole r) ∙ sym (feeding-whole (length held) room s held input)
@@ -207,19 +208,29 @@ pub runs : (input output : List ℕ) → Run fresh [] input output → output �
 unfolding listing
 runs input output r = run-whole r
 
+-- and so whatever image is lent to it at first: its first line writes a new one
+first-any : (u v : Value) (es : List (Option (List ℕ))) → listed First u es ≡ listed First v es
+unfolding listed answerTo
+first-any u v [] = refl
+first-any u v (e ∷ es) = refl
+
+pub runs-over : (image input output : List ℕ) → Run (standing unheard image) [] input output → output ≡ listing input
+unfolding listing
+runs-over image input output r = run-whole r ∙ first-any (unitOf image) blank (eventsFrom [] input)
+
 -- ---- and a run there is, for every input: the theorem is not empty
 
-pub record Ran (s : Session) (held input : List ℕ) : Type 0 where
+pub record Ran (s : Standing) (held input : List ℕ) : Type 0 where
   pub output : List ℕ
   pub run : Run s held input output
 
-drains : (n : ℕ) (s : Session) (held : List ℕ) → length held ≤ n → Ran s held []
+drains : (n : ℕ) (s : Standing) (held : List ℕ) → length held ≤ n → Ran s held []
 unfolding feeding
 drains zero s [] h = record { output = finishing most s []; run = finished most most (omega arith) refl (omega arith) }
 drains zero s (c ∷ held) h = absurd (omega arith)
 drains (suc n) s held h = go (feeding (length held) most s held .taken) refl (drains n)
   where
-    go : (k : ℕ) → feeding (length held) most s held .taken ≡ k → ((t : Session) (l : List ℕ) → length l ≤ n → Ran t l []) → Ran s held []
+    go : (k : ℕ) → feeding (length held) most s held .taken ≡ k → ((t : Standing) (l : List ℕ) → length l ≤ n → Ran t l []) → Ran s held []
     go zero e f = record { output = finishing most s held; run = finished most most (omega arith) e (omega arith) }
     go (suc k) e f =
         let r = f (feeding (length held) most s held .session) (drop (feeding (length held) most s held .taken) held)

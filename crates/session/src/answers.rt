@@ -5,23 +5,22 @@ ghost use Prim.Native.Nat.{_≤_, _<_, _+_};
 ghost use lib.ListN.{length};
 ghost use Rattle.octets.specs.Put.{Put};
 ghost use Rattle.book.specs.Step.{step};
-ghost use Rattle.session.specs.Listing.{noSetup, two, setupIn, begun, goneOn, laterOutcome, answerTo, atEnd};
-ghost use Rattle.session.specs.Feeding.{heard, most};
-ghost use Rattle.session.specs.Walking.{Handled, Takes, stated, stoppedAt};
+ghost use Rattle.image.specs.Image.{unitOf};
+ghost use Rattle.session.specs.Listing.{noSetup, two, setupIn, begun, goneOn, laterOutcome, answerTo, listed};
+ghost use Rattle.session.specs.Feeding.{heard, most, lastLine};
+ghost use Rattle.session.specs.Walking.{Begins, Lays, Takes, stated, stoppedAt};
 use crate::Fed;
 use crate::Phase;
 use crate::Session;
 use crate::walk;
-use book::Turn;
-use book::Unit;
 use book::Verdict;
 
 // Any first line but a setup.
-pub(crate) fn no_setup() -> Turn
-    ensures { λ r. ⌜ r ≡ noSetup ⌝ }
+fn no_setup(unit: &mut [u8; 618]) -> Verdict
+    ensures { λ r. ⌜ Begins noSetup r (now (unit .exit)) ⌝ }
 {
     let nothing = [0u8; 1];
-    unit::setup(0, 0, 0, &nothing[..0])
+    engine::setup(unit, 0, 0, 0, &nothing[..0])
 }
 
 fn two(s: &[u8], i: usize) -> u16
@@ -32,30 +31,30 @@ fn two(s: &[u8], i: usize) -> u16
 }
 
 // The setup that an event is.
-fn setup_in(event: &[u8]) -> Turn
-    ensures { λ r. ⌜ r ≡ setupIn (now (event .entry)) ⌝ }
+fn setup_in(unit: &mut [u8; 618], event: &[u8]) -> Verdict
+    ensures { λ r. ⌜ Begins (setupIn (now (event .entry))) r (now (unit .exit)) ⌝ }
 {
     if event.len() < 7 {
-        return no_setup();
+        return no_setup(unit);
     }
     if event[0] == 0 {
         let start = two(event, 1);
         let end = two(event, 3);
         let inactivity = two(event, 5);
-        return unit::setup(start, end, inactivity, &event[7..]);
+        return engine::setup(unit, start, end, inactivity, &event[7..]);
     }
-    no_setup()
+    no_setup(unit)
 }
 
 // Prints `f0` and the state of a unit: the session goes on with it.
-fn stated(unit: Unit, next: usize, out: &mut [u8], at: usize) -> Fed
+fn stated(unit: &[u8; 618], next: usize, out: &mut [u8], at: usize) -> Fed
     requires { ⌜ at + 5 ≤ length (now out) ⌝ }
-    ensures { λ r. ⌜ Takes (stated unit next) (now (out .entry)) at (now (out .exit)) r ⌝ }
+    ensures { λ r. ⌜ Takes (stated (unitOf (now (unit .entry))) next) (now (out .entry)) at (now (unit .entry)) (now (out .exit)) r ⌝ }
 {
-    let end = walk::print_two(out, at, 240, unit.state);
+    let state = image::state(unit);
+    let end = walk::print_two(out, at, 240, state);
     let phase = Phase::Running;
     let session = Session {
-        unit: unit,
         phase: phase,
         passing: false,
     };
@@ -67,12 +66,11 @@ fn stated(unit: Unit, next: usize, out: &mut [u8], at: usize) -> Fed
 }
 
 // The session stops.
-fn stopped(unit: Unit, next: usize, at: usize) -> Fed
-    ensures { λ r. ⌜ r ≡ stoppedAt unit next at ⌝ }
+fn stopped(next: usize, at: usize) -> Fed
+    ensures { λ r. ⌜ r ≡ stoppedAt next at ⌝ }
 {
     let phase = Phase::Stopped;
     let session = Session {
-        unit: unit,
         phase: phase,
         passing: false,
     };
@@ -84,12 +82,10 @@ fn stopped(unit: Unit, next: usize, at: usize) -> Fed
 }
 
 // The first line.
-fn begin(turn: Turn, next: usize, out: &mut [u8], at: usize) -> Fed
+fn begin(verdict: Verdict, unit: &[u8; 618], next: usize, out: &mut [u8], at: usize) -> Fed
     requires { ⌜ at + 5 ≤ length (now out) ⌝ }
-    ensures { λ r. ⌜ Takes (heard next (begun (turn .unit) (turn .verdict))) (now (out .entry)) at (now (out .exit)) r ⌝ }
+    ensures { λ r. ⌜ Takes (heard next (begun (unitOf (now (unit .entry))) verdict)) (now (out .entry)) at (now (unit .entry)) (now (out .exit)) r ⌝ }
 {
-    let unit = turn.unit;
-    let verdict = turn.verdict;
     match verdict {
         Verdict::Done {
             lines: _,
@@ -97,21 +93,22 @@ fn begin(turn: Turn, next: usize, out: &mut [u8], at: usize) -> Fed
         } => stated(unit, next, out, at),
         Verdict::Refused(number) => {
             let end = walk::print_two(out, at, 255, number);
-            stopped(unit, next, end)
+            stopped(next, end)
         }
     }
 }
 
 // A unit's turn at an event, its lines laid into the buffer.
-fn turned(unit: Unit, event: &[u8], laid: &mut [u8; 1024]) -> Turn
-    ensures { λ r. ⌜ Handled unit (step 1024 unit (now (event .entry))) r (now (laid .exit)) ⌝ }
+fn turned(unit: &mut [u8], event: &[u8], laid: &mut [u8; 1024]) -> Verdict
+    requires { ⌜ length (now unit) ≡ 618 ⌝ }
+    ensures { λ r. ⌜ Lays (unitOf (now (unit .entry))) (step 1024 (unitOf (now (unit .entry))) (now (event .entry))) r (now (unit .exit)) (now (laid .exit)) ⌝ }
 {
-    unit::handle(unit, event, laid)
+    engine::handle(unit, event, laid)
 }
 
 // A later line.
 fn go_on(
-    unit: Unit,
+    unit: &mut [u8; 618],
     next: usize,
     event: &[u8],
     laid: &mut [u8; 1024],
@@ -119,19 +116,17 @@ fn go_on(
     at: usize,
 ) -> Fed
     requires { ⌜ at + most ≤ length (now out) ⌝ }
-    ensures { λ r. ⌜ Takes (heard next (goneOn unit (laterOutcome unit (some (now (event .entry)))))) (now (out .entry)) at (now (out .exit)) r ⌝ }
+    ensures { λ r. ⌜ Takes (heard next (goneOn (unitOf (now (unit .entry))) (laterOutcome (unitOf (now (unit .entry))) (some (now (event .entry)))))) (now (out .entry)) at (now (unit .exit)) (now (out .exit)) r ⌝ }
 {
-    let turn = turned(unit, event, laid);
-    let verdict = turn.verdict;
-    let after = turn.unit;
+    let verdict = turned(unit, event, laid);
     let place = walk::print_verdict(out, at, laid, verdict);
-    stated(after, next, out, place)
+    stated(unit, next, out, place)
 }
 
 // A later line that is no event.
-fn go_on_refused(unit: Unit, next: usize, out: &mut [u8], at: usize) -> Fed
+fn go_on_refused(unit: &[u8; 618], next: usize, out: &mut [u8], at: usize) -> Fed
     requires { ⌜ at + 10 ≤ length (now out) ⌝ }
-    ensures { λ r. ⌜ Takes (heard next (goneOn unit (laterOutcome unit none))) (now (out .entry)) at (now (out .exit)) r ⌝ }
+    ensures { λ r. ⌜ Takes (heard next (goneOn (unitOf (now (unit .entry))) (laterOutcome (unitOf (now (unit .entry))) none))) (now (out .entry)) at (now (unit .entry)) (now (out .exit)) r ⌝ }
 {
     let place = walk::print_two(out, at, 255, 8);
     stated(unit, next, out, place)
@@ -140,6 +135,7 @@ fn go_on_refused(unit: Unit, next: usize, out: &mut [u8], at: usize) -> Fed
 // A line that is an event.
 pub(crate) fn heard(
     s: Session,
+    unit: &mut [u8; 618],
     next: usize,
     event: &[u8],
     laid: &mut [u8; 1024],
@@ -147,45 +143,55 @@ pub(crate) fn heard(
     at: usize,
 ) -> Fed
     requires { ⌜ at + most ≤ length (now out) ⌝ }
-    ensures { λ r. ⌜ Takes (heard next (answerTo (s .phase) (s .unit) (some (now (event .entry))))) (now (out .entry)) at (now (out .exit)) r ⌝ }
+    ensures { λ r. ⌜ Takes (heard next (answerTo (s .phase) (unitOf (now (unit .entry))) (some (now (event .entry))))) (now (out .entry)) at (now (unit .exit)) (now (out .exit)) r ⌝ }
 {
-    let unit = s.unit;
     let phase = s.phase;
     match phase {
         Phase::First => {
-            let turn = setup_in(event);
-            begin(turn, next, out, at)
+            let verdict = setup_in(unit, event);
+            begin(verdict, unit, next, out, at)
         }
         Phase::Running => go_on(unit, next, event, laid, out, at),
-        Phase::Stopped => stopped(unit, next, at),
+        Phase::Stopped => stopped(next, at),
     }
 }
 
 // A line that is none.
-pub(crate) fn refused(s: Session, next: usize, out: &mut [u8], at: usize) -> Fed
+pub(crate) fn refused(
+    s: Session,
+    unit: &mut [u8; 618],
+    next: usize,
+    out: &mut [u8],
+    at: usize,
+) -> Fed
     requires { ⌜ at + most ≤ length (now out) ⌝ }
-    ensures { λ r. ⌜ Takes (heard next (answerTo (s .phase) (s .unit) none)) (now (out .entry)) at (now (out .exit)) r ⌝ }
+    ensures { λ r. ⌜ Takes (heard next (answerTo (s .phase) (unitOf (now (unit .entry))) none)) (now (out .entry)) at (now (unit .exit)) (now (out .exit)) r ⌝ }
 {
-    let unit = s.unit;
     let phase = s.phase;
     match phase {
         Phase::First => {
-            let turn = no_setup();
-            begin(turn, next, out, at)
+            let verdict = no_setup(unit);
+            begin(verdict, unit, next, out, at)
         }
         Phase::Running => go_on_refused(unit, next, out, at),
-        Phase::Stopped => stopped(unit, next, at),
+        Phase::Stopped => stopped(next, at),
     }
 }
 
-// The end of an input whose last line is ended.
-pub(crate) fn at_end(phase: Phase, out: &mut [u8]) -> usize
-    requires { ⌜ 5 ≤ length (now out) ⌝ }
-    ensures { λ r. ⌜ (Put (now (out .entry)) 0 (atEnd phase) (now (out .exit)) r) × (r ≤ 5) ⌝ }
+// The end of the input. A line that is left open is none, and nothing follows it.
+pub(crate) fn at_end(phase: Phase, left: bool, unit: &[u8; 618], out: &mut [u8]) -> usize
+    requires { ⌜ most ≤ length (now out) ⌝ }
+    ensures { λ r. ⌜ (Put (now (out .entry)) 0 (listed phase (unitOf (now (unit .entry))) (lastLine left)) (now (out .exit)) r) × (r ≤ most) ⌝ }
 {
     match phase {
         Phase::First => walk::print_two(out, 0, 255, 7),
-        Phase::Running => 0,
+        Phase::Running => {
+            if left {
+                let fed = go_on_refused(unit, 0, out, 0);
+                return fed.written;
+            }
+            0
+        }
         Phase::Stopped => 0,
     }
 }

@@ -1,5 +1,7 @@
 -- `session::line_after` meets its contract. Closed by FeedLaws: the line where the input stands.
 use native.Mathlib.Omega.{arith}
+use denote.Ref.{now}
+use Rattle.session.specs.Feeding.{standing}
 use Rattle.session.proofs.FeedLaws.{after-within, after-takes}
 use borrow.Author.Needs.{needs}
 use Rattle.session.proofs.line_after.Statement.{statement}
@@ -17,16 +19,16 @@ part-line-end c = search needs
 line-requires : tie.Need-line-requires
 line-requires c κs = search needs
 
-add-t14 : tie.Need-add-t14
-add-t14 c = let a = c .before .before .before .before .before .before .before .before .before .before .before .args in let h = after-within (a .fed .session) (a .input .now) (a .fed .taken) (c .before .before .before .line .ensures) (c .before .before .before .before .before .before .before .before .before .before .before .pre .0) in omega arith
+add-t16 : tie.Need-add-t16
+add-t16 c = let a = c .before .before .before .before .before .before .before .before .before .before .before .before .args in let h = after-within (standing (a .fed .session) (now (a .unit))) (a .input .now) (a .fed .taken) (c .before .before .before .line .ensures) (c .before .before .before .before .before .before .before .before .before .before .before .before .pre .0) in omega arith
 
 same-length : tie.Need-same-length
 same-length c = search needs
 
 returns : tie.Need-returns
-returns c = let a = c .before .before .before .before .before .before .before .before .before .before .before .args in after-takes (a .fed .session) (a .input .now) (a .fed .taken) (c .before .before .before .line .ensures)
+returns c = let a = c .before .before .before .before .before .before .before .before .before .before .before .before .args in after-takes (standing (a .fed .session) (now (a .unit))) (a .input .now) (a .fed .taken) (c .before .before .before .line .ensures)
 
 pub line-after-spec : {M : Type 1} → statement M
 line-after-spec =
     tie.close
-    (tie.spec sub-line part-line-start part-line-end line-requires add-t14 same-length returns)
+    (tie.spec sub-line part-line-start part-line-end line-requires add-t16 same-length returns)

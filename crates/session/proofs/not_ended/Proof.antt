@@ -9,7 +9,7 @@ longer-requires : tie.Need-longer-requires
 longer-requires c κs = search needs
 
 returns : tie.Need-returns
-returns c = left-over (c .before .before .before .before .args .s) (c .before .before .before .before .args .input .now) _ (sym (c .before .before .longer .ensures) ∙ c .before .if1 .taken)
+returns c = left-over (c .before .before .before .args .s) (c .before .before .before .args .input .now) _ (sym (c .before .longer .ensures) ∙ c .if1 .taken)
 
 returns-2 : tie.Need-returns-2
 returns-2 c = left-later (c .before .before .before .args .s) (c .before .before .before .args .input .now) _ (sym (c .before .longer .ensures) ∙ c .if1 .left)

@@ -1,4 +1,5 @@
 -- `session::pass` meets its contract. Closed by LineLaws: a line that is passed over ends, or goes on.
+use denote.Ref.{now}
 use Rattle.session.proofs.AnswerLaws.{takes-as}
 use Rattle.session.proofs.LineLaws.{pass-ended, pass-open, left-takes}
 use borrow.Author.Needs.{needs}
@@ -18,13 +19,13 @@ same-length : tie.Need-same-length
 same-length c = search needs
 
 returns : tie.Need-returns
-returns c = takes-as (pass-ended _ _ _ (c .before .before .before .before .before .before .before .before .pre .0) (c .before .before .before .before .before .line-feed .ensures) (search needs)) (c .before .before .refused .ensures)
+returns c = takes-as (pass-ended _ _ _ (c .before .before .before .before .before .before .before .before .before .pre .0) (c .before .before .before .before .before .before .line-feed .ensures) (search needs)) (c .before .before .refused .ensures)
 
 not-ended-requires : tie.Need-not-ended-requires
 not-ended-requires c κs = search needs
 
 returns-2 : tie.Need-returns-2
-returns-2 c = left-takes _ _ _ _ _ (pass-open _ _ _ (c .before .before .line-feed .ensures) (search needs)) (c .not-ended .ensures)
+returns-2 c = left-takes _ _ (now (c .before .before .before .before .before .args .unit)) _ _ _ (pass-open _ _ _ (c .before .before .line-feed .ensures) (search needs)) (c .not-ended .ensures)
 
 pub pass-spec : {M : Type 1} → statement M
 pass-spec =

@@ -23,13 +23,13 @@ same-length : tie.Need-same-length
 same-length c = search needs
 
 returns : tie.Need-returns
-returns c = begin-good _ _ _ (c .before .before .before .before .enum-told .given .1) (c .before .before .stated .ensures)
+returns c = begin-good _ _ (c .before .before .before .before .enum-told .given .1) (c .before .before .stated .ensures)
 
 same-length-2 : tie.Need-same-length-2
 same-length-2 c = search needs
 
 returns-2 : tie.Need-returns-2
-returns-2 c = begin-refused _ _ _ (c .before .before .before .before .before .before .verdict .given .1) (c .before .before .before .print-two .ensures .0) (c .before .before .before .print-two .ensures .1) (c .stopped .ensures)
+returns-2 c = begin-refused _ _ (c .before .before .before .before .before .before .verdict .given .1) (c .before .before .before .print-two .ensures .0) (c .before .before .before .print-two .ensures .1) (c .stopped .ensures)
 
 pub begin-spec : {M : Type 1} → statement M
 begin-spec =

@@ -17,7 +17,7 @@ same-length : tie.Need-same-length
 same-length c = search needs
 
 returns : tie.Need-returns
-returns c = let d = c .before .before .before .before .before .before .before .before .before .before .turned .ensures in goes-on _ _ _ _ _ (d .lines) (d .unit) (c .before .before .before .before .before .before .print-verdict .ensures .0) (c .before .before .before .before .before .before .print-verdict .ensures .1) (c .before .before .stated .ensures)
+returns c = let d = c .before .before .before .before .before .before .before .before .before .before .turned .ensures in goes-on _ _ _ _ (d .lines) (d .unit) (c .before .before .before .before .before .before .before .print-verdict .ensures .0) (c .before .before .before .before .before .before .before .print-verdict .ensures .1) (c .before .before .stated .ensures)
 
 pub go-on-spec : {M : Type 1} → statement M
 go-on-spec =

@@ -14,7 +14,7 @@ same-length : tie.Need-same-length
 same-length c = search needs
 
 returns : tie.Need-returns
-returns c = goes-refused _ _ (c .before .before .before .before .before .before .print-two .ensures .0) (c .before .before .before .before .before .before .print-two .ensures .1) (c .before .before .stated .ensures)
+returns c = goes-refused _ (c .before .before .before .before .before .before .print-two .ensures .0) (c .before .before .before .before .before .before .print-two .ensures .1) (c .before .before .stated .ensures)
 
 pub go-on-refused-spec : {M : Type 1} → statement M
 go-on-refused-spec = tie.close (tie.spec print-two-requires stated-requires same-length returns)

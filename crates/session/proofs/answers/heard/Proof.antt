@@ -31,16 +31,16 @@ same-length : tie.Need-same-length
 same-length c = search needs
 
 returns : tie.Need-returns
-returns c = answer-first _ _ (some (now (c .before .before .before .before .before .before .before .before .before .before .args .event))) _ _ (c .before .before .before .before .before .enum-told .given .1) (c .before .before .before .before .setup-in .ensures) (c .before .before .begin .ensures)
+returns c = answer-first _ _ (some (now (c .before .before .before .before .before .before .before .before .before .before .before .args .event))) _ _ (c .before .before .before .before .before .before .before .enum-told .given .1) (c .before .before .before .before .before .setup-in .ensures) (c .before .before .begin .ensures)
 
 same-length-2 : tie.Need-same-length-2
 same-length-2 c = search needs
 
 returns-2 : tie.Need-returns-2
-returns-2 c = answer-running _ _ (some (now (c .before .before .before .before .before .before .before .before .before .before .args .event))) _ (c .before .before .before .before .before .enum-told2 .given .1) (c .before .before .go-on .ensures)
+returns-2 c = answer-running _ _ (some (now (c .before .before .before .before .before .before .before .before .before .before .args .event))) _ (c .before .before .before .before .before .before .enum-told2 .given .1) (c .before .before .go-on .ensures)
 
 returns-3 : tie.Need-returns-3
-returns-3 c = answer-stopped _ _ (some (now (c .before .before .before .before .before .before .args .event))) _ _ (c .before .enum-told3 .given .1) (c .stopped .ensures)
+returns-3 c = answer-stopped _ (now (c .before .before .before .before .before .args .unit)) (some (now (c .before .before .before .before .before .args .event))) _ _ (c .before .enum-told3 .given .1) (c .stopped .ensures)
 
 pub heard-spec : {M : Type 1} → statement M
 heard-spec =

@@ -14,7 +14,7 @@ setup-requires : tie.Need-setup-requires
 setup-requires c κs = search needs
 
 returns : tie.Need-returns
-returns c = setup-none _ (c .setup .ensures)
+returns c = setup-none (search needs) (c .setup .ensures)
 
 pub no-setup-spec : {M : Type 1} → statement M
 no-setup-spec =

@@ -1,5 +1,6 @@
 -- `session::answers::refused` meets its contract. Closed by AnswerLaws, one law for each phase.
 use mathlib.Core.Option.{none}
+use denote.Ref.{now}
 use Rattle.session.proofs.AnswerLaws.{answer-first, answer-running, answer-stopped}
 use borrow.Author.Needs.{needs}
 use Rattle.session.proofs.answers.refused.Statement.{statement}
@@ -30,16 +31,16 @@ same-length : tie.Need-same-length
 same-length c = search needs
 
 returns : tie.Need-returns
-returns c = answer-first _ _ none _ _ (c .before .before .before .before .before .enum-told .given .1) (c .before .before .before .before .no-setup .ensures) (c .before .before .begin .ensures)
+returns c = answer-first _ _ none _ _ (c .before .before .before .before .before .before .before .enum-told .given .1) (c .before .before .before .before .before .no-setup .ensures) (c .before .before .begin .ensures)
 
 same-length-2 : tie.Need-same-length-2
 same-length-2 c = search needs
 
 returns-2 : tie.Need-returns-2
-returns-2 c = answer-running _ _ none _ (c .before .before .before .before .enum-told2 .given .1) (c .before .before .go-on-refused .ensures)
+returns-2 c = answer-running _ _ none _ (c .before .before .before .before .before .enum-told2 .given .1) (c .before .before .go-on-refused .ensures)
 
 returns-3 : tie.Need-returns-3
-returns-3 c = answer-stopped _ _ none _ _ (c .before .enum-told3 .given .1) (c .stopped .ensures)
+returns-3 c = answer-stopped _ (now (c .before .before .before .before .args .unit)) none _ _ (c .before .enum-told3 .given .1) (c .stopped .ensures)
 
 pub refused-spec : {M : Type 1} → statement M
 refused-spec =
