@@ -1,23 +1,20 @@
 -- WHAT A BLOCK SHOWS IS WHAT WAS READ: each field with its place and length or absent, the place after the fields, and the number of extension fields.
 -- Closed by where the fields of a frame stand (frame, proofs/Places): no number is cut, and place 0 is no field's.
-use Prim.Native.Nat.{ℕ, zero, suc, _+_, _*_, _/_, _%_, _≤_, _<_}
+use Prim.Native.Nat.{ℕ, _+_, _*_, _/_, _%_, _≤_, _<_}
 use mathlib.Core.Path.{_≡_, refl, ap, sym, _∙_}
 use mathlib.Core.List.{List, [], _∷_, _++_}
 use native.Mathlib.Omega.{arith}
 use borrow.Author.Tests.{ne-eqb}
-use lib.Dec.{eqb}
-use lib.ListN.{length, drop, getD}
+use lib.ListN.{length, getD}
 use lib.Seq.{getD-drop, drop-at}
-use Rattle.octets.specs.Choice.{pick}
 use Rattle.frame.specs.Encoding.{weight}
 use Rattle.frame.specs.Reading.{octet, readingOf}
 use Rattle.frame.specs.declared.Field.{Field}
-use Rattle.frame.specs.declared.Field.the-variants.{Absent, At}
 use Rattle.frame.specs.declared.Header.{Header}
 use Rattle.frame.specs.declared.Reading.the-variants.{Whole}
 use Rattle.frame.proofs.Inversion.{known}
 use Rattle.frame.proofs.Places.{Stands, absent, there, placed, brief}
-use Rattle.embed.specs.Image.{two}
+use Rattle.image.specs.Image.{two}
 use Rattle.embed.specs.Fields.{pair, fieldOctets, blockOf, fieldIn}
 use Rattle.embed.proofs.FieldsLaws.{field-long}
 

@@ -1,23 +1,27 @@
 -- Laws of the calls: the number of an answer, and each way out of setup and of an event.
 use Prim.Native.Nat.{ℕ, _+_, _*_, _<_, _≤_}
-use mathlib.Core.Path.{_≡_, refl, sym}
+use mathlib.Core.Path.{_≡_, refl, ap, sym, _∙_}
 use mathlib.Core.Bool.{Bool, true, false}
 use mathlib.Core.List.{List}
 use native.Mathlib.Omega.{arith}
-use borrow.Author.Tests.{lt-ltb, le-ltb, eq-eqb, ne-eqb}
+use borrow.Author.Tests.{le-ltb, ltb-false, eq-eqb, ne-eqb, eqb-true}
+use lib.Dec.{ltb, eqb}
 use lib.ListN.{length, getD}
 use Rattle.octets.specs.Choice.{pick}
 use Rattle.frame.specs.Reading.{octet}
 use Rattle.book.specs.Book.{Outcome, refused, done}
 use Rattle.book.specs.Sound.{soundOf, withinLimits}
-use Rattle.book.specs.Step.{step, octetsOf, turnOf, Turned, setUp}
+use Rattle.book.specs.Step.{step, turnOf, setUp}
 use Rattle.book.specs.declared.Unit.{Unit as Value}
 use Rattle.book.specs.declared.Turn.{Turn}
 use Rattle.book.specs.declared.Verdict.{Verdict}
 use Rattle.book.specs.declared.Verdict.the-variants.{Done, Refused}
 use Rattle.room_laws.proofs.Room.{room}
-use Rattle.embed.specs.Image.{unitOf, imageOf}
-use Rattle.embed.specs.Answer.{numberOf, counted, outcomeOn, imageAfter, Answers, SetsUp}
+use Rattle.image.specs.Image.{unitOf}
+use Rattle.image.specs.Answer.{outcomeOn, Handled}
+use Rattle.image.specs.Answer as Image
+use Rattle.image_laws.proofs.GoesOn.{wide, eight, long, kept-small, set-verdict}
+use Rattle.embed.specs.Answer.{numberOf, counted, Answers, SetsUp}
 
 -- ---- the number of an answer
 
@@ -37,16 +41,6 @@ pub refusal-counts : {v : Verdict} (n : ℕ) → v ≡ Refused n → counted v <
 unfolding counted
 refusal-counts n e = rw e (omega arith)
 
--- ---- the image
-
-pub settled : {v : Verdict} {n k : ℕ} (image : List ℕ) (u : Value) {after : List ℕ} → v ≡ Done n k → after ≡ imageOf u → after ≡ imageAfter image u v
-unfolding imageAfter
-settled image u e h = rw e h
-
-pub left-as-was : {v : Verdict} {n : ℕ} (image : List ℕ) (u : Value) → v ≡ Refused n → image ≡ imageAfter image u v
-unfolding imageAfter
-left-as-was image u e = rw e
-
 -- ---- an event
 
 unsound : (rm : ℕ) (u : Value) (ev : List ℕ) → 1024 ≤ rm → soundOf u ≡ false → step rm u ev ≡ refused 9
@@ -64,40 +58,25 @@ step-counts rm u ev t h wide eight long kept small e = rw e (go (soundOf u) refl
     go true p (done st os) q = let r = room rm u ev st os (sym p) wide eight long kept small q in omega (arith, r .0, r .1)
     go false p (done st os) q = let z : _≡_ {A = ℕ} 0 1 = let w = unsound rm u ev h (sym p) in cc in absurd (omega arith)
 
-module _ (image ev out : List ℕ) where
-  -- 6
-  pub event-short : length out < 1024 → {v : Verdict} {r : ℕ} → v ≡ Refused 6 → r ≡ numberOf v → Answers image ev out r image out
-  unfolding outcomeOn turnOf imageAfter octetsOf
-  event-short h p e = record {
-    number = rw (lt-ltb (length out) 1024 h) (rw p at e);
-    image = rw (lt-ltb (length out) 1024 h);
-    buffer = rw (lt-ltb (length out) 1024 h);
-  }
+-- what the engine answers to any event has room in a number
+pub handled-counts : (image ev out : List ℕ) {v : Verdict} {after out' : List ℕ} → ((i : ℕ) → octet image i < 256) → ((i : ℕ) → octet ev i < 256)
+    → Handled image ev out v after out' → counted v < 4294967040
+unfolding outcomeOn turnOf counted
+handled-counts image ev out {v} small smallEvent h =
+    rw (h .verdict) (go (ltb (length out) 1024) refl (eqb (length image) 618) refl)
+  where
+    go : (a : Bool) → a ≡ ltb (length out) 1024 → (b : Bool) → b ≡ eqb (length image) 618
+        → counted (turnOf (unitOf image) (pick a (refused 6) (pick b (step (length out) (unitOf image) ev) (refused 9))) .verdict) < 4294967040
+    go true p b q = omega arith
+    go false p false q = omega arith
+    go false p true q =
+        let e = eqb-true (length image) 618 (sym q) in
+        step-counts (length out) (unitOf image) ev (turnOf (unitOf image) (step (length out) (unitOf image) ev)) (ltb-false (length out) 1024 (sym p))
+        (wide image e small) (eight image e small) (long image e small) (kept-small image e small) smallEvent refl
 
-  -- 9
-  pub event-none : 1024 ≤ length out → (length image ≡ 618 → ⊥) → {v : Verdict} {r : ℕ} → v ≡ Refused 9 → r ≡ numberOf v → Answers image ev out r image out
-  unfolding outcomeOn turnOf imageAfter octetsOf
-  event-none h n p e = record {
-    number = rw (le-ltb (length out) 1024 h, ne-eqb (length image) 618 n) (rw p at e);
-    image = rw (le-ltb (length out) 1024 h, ne-eqb (length image) 618 n);
-    buffer = rw (le-ltb (length out) 1024 h, ne-eqb (length image) 618 n);
-  }
-
-  outcome-is : 1024 ≤ length out → length image ≡ 618 → step (length out) (unitOf image) ev ≡ outcomeOn (length out) image ev
-  unfolding outcomeOn
-  outcome-is h n = rw (le-ltb (length out) 1024 h, eq-eqb (length image) 618 n)
-
-  -- the unit's own answer
-  pub event-answers : 1024 ≤ length out → length image ≡ 618 → {u : Value} {t : Turn} {r : ℕ} {after out' : List ℕ} → u ≡ unitOf image
-      → Turned u (step (length out) u ev) out t out' → after ≡ imageAfter image (t .unit) (t .verdict) → r ≡ numberOf (t .verdict)
-      → Answers image ev out r after out'
-  event-answers h n {u} {t} {r} {after} {out'} e d i p =
-      let g : Turned (unitOf image) (outcomeOn (length out) image ev) out t out' = rw (e, outcome-is h n) at d in
-      record {
-        number = rw (g .result) at p;
-        image = rw (g .result) at i;
-        buffer = g .buffer;
-      }
+pub event-answers : (image ev out : List ℕ) {v : Verdict} {r : ℕ} {after out' : List ℕ} → Handled image ev out v after out' → r ≡ numberOf v
+    → Answers image ev out r after out'
+event-answers image ev out h e = record { number = e ∙ ap numberOf (h .verdict); image = h .image; buffer = h .buffer }
 
 -- an image of 617 octets is none, whatever it holds
 pub short-image : (room : ℕ) (image ev : List ℕ) → 1024 ≤ room → length image ≡ 617 → outcomeOn room image ev ≡ refused 9
@@ -106,9 +85,9 @@ short-image room image ev h e = rw (le-ltb room 1024 h, e)
 
 -- ---- setup
 
-pub setup-counts : (a b c : ℕ) (name : List ℕ) (t : Turn) → t ≡ setUp a b c name → counted (t .verdict) < 4294967040
+verdict-counts : (a b c : ℕ) (name : List ℕ) → counted (setUp a b c name .verdict) < 4294967040
 unfolding setUp counted
-setup-counts a b c name t e = rw e (go (withinLimits a b c (length name)) _ _)
+verdict-counts a b c name = go (withinLimits a b c (length name)) _ _
   where
     go : (w : Bool) (x y : Value) → counted (pick {A = Turn} w (record { unit = x; verdict = Done 0 0 }) (record { unit = y; verdict = Refused 7 }) .verdict) < 4294967040
     go true x y = omega arith
@@ -121,9 +100,12 @@ module _ (a b c : ℕ) (name image : List ℕ) where
     image = rw (ne-eqb (length image) 618 n);
   }
 
-  pub setup-answers : length image ≡ 618 → {t : Turn} {r : ℕ} {after : List ℕ} → t ≡ setUp a b c name → after ≡ imageOf (t .unit) → r ≡ numberOf (t .verdict)
-      → SetsUp a b c name image r after
-  setup-answers n e i p = record {
-    number = rw (eq-eqb (length image) 618 n) (rw e at p);
-    image = rw (eq-eqb (length image) 618 n) (rw e at i);
-  }
+  module _ (n : length image ≡ 618) {v : Verdict} {after : List ℕ} (h : Image.SetsUp a b c name image v after) where
+    pub setup-counts : counted v < 4294967040
+    setup-counts = rw (set-verdict a b c name image n h) (verdict-counts a b c name)
+
+    pub setup-answers : {r : ℕ} → r ≡ numberOf v → SetsUp a b c name image r after
+    setup-answers p = record {
+      number = rw (eq-eqb (length image) 618 n) (p ∙ ap numberOf (set-verdict a b c name image n h));
+      image = h .image;
+    }

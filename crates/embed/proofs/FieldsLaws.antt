@@ -1,5 +1,5 @@
 -- Laws of the frame's calls: the block that is written, the writer's parts, and each way out of the two calls.
-use Prim.Native.Nat.{ℕ, _+_, _*_, _/_, _%_, _<_, _≤_}
+use Prim.Native.Nat.{ℕ, _+_, _/_, _%_, _<_, _≤_}
 use mathlib.Core.Path.{_≡_, refl, ap, sym, _∙_}
 use mathlib.Core.Bool.{Bool, true, false}
 use mathlib.Core.List.{List, [], _∷_, _++_}
@@ -15,7 +15,7 @@ use Rattle.frame.specs.Message.{Message}
 use Rattle.frame.specs.Encoding.{weight, encode}
 use Rattle.frame.specs.Faults.{faultNumber, refusalNumber}
 use Rattle.frame.specs.Reading.{bit, readingOf}
-use Rattle.frame.specs.Writing.{messageOf, faultIn, refusalOf, Allowed, answered, left, Wrote}
+use Rattle.frame.specs.Writing.{messageOf, faultIn, refusalOf, Allowed, answered, Wrote}
 use Rattle.frame.proofs.Laws.{short}
 use Rattle.frame.specs.declared.Fault.{Fault}
 use Rattle.frame.specs.declared.Field.{Field}

@@ -29,7 +29,7 @@ use Rattle.frame.specs.declared.Written.{Written}
 use Rattle.frame.specs.declared.Written.the-variants.{Octets, Refused as Nothing}
 use Rattle.book.specs.declared.Verdict.{Verdict}
 use Rattle.book.specs.declared.Verdict.the-variants.{Done, Refused}
-use Rattle.embed.specs.Image.{two}
+use Rattle.image.specs.Image.{two}
 use Rattle.embed.specs.Answer.{numberOf}
 
 -- ---- reading

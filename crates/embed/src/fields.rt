@@ -7,7 +7,7 @@ ghost use Rattle.frame.specs.Reading.{bit};
 ghost use Rattle.frame.specs.Encoding.{weight};
 ghost use Rattle.frame.specs.declared.OneOctet.the-variants as OneOctet;
 ghost use Rattle.frame.specs.declared.TwoOctets.the-variants as TwoOctets;
-ghost use Rattle.embed.specs.Fields.{pair, fieldOctets, blockOf, readVerdict, partsIn, writeVerdict};
+ghost use Rattle.embed.specs.Fields.{pair, fieldOctets, blockOf, partsIn, writeVerdict};
 use book::Verdict;
 use frame::Field;
 use frame::Header;

@@ -2,16 +2,13 @@
 // as an image of 618 octets.
 ghost use mathlib.Core.Path.{_≡_};
 ghost use Prim.Native.Nat.{_<_};
-ghost use lib.ListN.{length};
 ghost use Rattle.frame.specs.Writing.{messageOf};
-ghost use Rattle.embed.specs.Answer.{numberOf, counted, imageAfter, Answers, SetsUp};
+ghost use Rattle.embed.specs.Answer.{numberOf, counted, Answers, SetsUp};
 ghost use Rattle.embed.specs.Fields.{partsIn, Reads, Writes};
-use book::Unit;
 use book::Verdict;
 use frame::Reading;
 
 mod fields;
-mod image;
 
 // An answer as one number.
 fn number(v: Verdict) -> u32
@@ -21,20 +18,6 @@ fn number(v: Verdict) -> u32
     match v {
         Verdict::Done { lines, octets } => 65536 * (lines as u32) + (octets as u32),
         Verdict::Refused(n) => 0xffffff00 + (n as u32),
-    }
-}
-
-// The image of the next unit, unless the event was refused.
-fn settle(image: &mut [u8], u: Unit, v: Verdict)
-    requires { ⌜ length (now image) ≡ 618 ⌝ }
-    ensures { λ _. ⌜ now (image .exit) ≡ imageAfter (now (image .entry)) u v ⌝ }
-{
-    match v {
-        Verdict::Done {
-            lines: _,
-            octets: _,
-        } => image::put_unit(image, u),
-        Verdict::Refused(_) => (),
     }
 }
 
@@ -52,10 +35,7 @@ pub extern "C" fn stelquorum_setup(
     if image.len() != 618 {
         return number(Verdict::Refused(6));
     }
-    let turn = unit::setup(start, end, inactivity, name);
-    let unit = turn.unit;
-    let verdict = turn.verdict;
-    image::put_unit(image, unit);
+    let verdict = engine::setup(image, start, end, inactivity, name);
     number(verdict)
 }
 
@@ -64,17 +44,7 @@ pub extern "C" fn stelquorum_setup(
 pub extern "C" fn stelquorum_event(image: &mut [u8], event: &[u8], out: &mut [u8]) -> u32
     ensures { λ r. ⌜ Answers (now (image .entry)) (now (event .entry)) (now (out .entry)) r (now (image .exit)) (now (out .exit)) ⌝ }
 {
-    if out.len() < 1024 {
-        return number(Verdict::Refused(6));
-    }
-    if image.len() != 618 {
-        return number(Verdict::Refused(9));
-    }
-    let unit = image::unit_in(image);
-    let turn = unit::handle(unit, event, out);
-    let next = turn.unit;
-    let verdict = turn.verdict;
-    settle(image, next, verdict);
+    let verdict = engine::handle(image, event, out);
     number(verdict)
 }
 

@@ -1,4 +1,4 @@
--- `embed::stelquorum_setup` meets its contract. Closed by CallLaws, one law for each way out.
+-- `embed::stelquorum_setup` meets its contract. Closed by laws of CallLaws, one for each way out.
 use mathlib.Core.Path.{refl}
 use Rattle.embed.proofs.CallLaws.{refusal-counts, setup-counts, setup-no-image, setup-answers}
 use borrow.Author.Needs.{needs}
@@ -14,26 +14,14 @@ returns c = setup-no-image _ _ _ _ _ (c .before .if1 .taken) refl (c .number .en
 setup-requires : tie.Need-setup-requires
 setup-requires c κs = search needs
 
-put-unit-requires : tie.Need-put-unit-requires
-put-unit-requires c κs = search needs
-
 number-requires-2 : tie.Need-number-requires-2
-number-requires-2 c κs = setup-counts _ _ _ _ _ (c .before .before .before .before .before .setup .ensures)
+number-requires-2 c κs = setup-counts _ _ _ _ _ (c .before .before .before .before .if1 .left) (c .before .before .setup .ensures)
 
 same-length : tie.Need-same-length
 same-length c = search needs
 
 returns-2 : tie.Need-returns-2
-returns-2 c = setup-answers _ _ _ _ _ (c .before .before .before .before .before .before .before .if1 .left) (c .before .before .before .before .before .before .setup .ensures) (c .before .before .before .put-unit .ensures) (c .number2 .ensures)
+returns-2 c = setup-answers _ _ _ _ _ (c .before .before .before .before .before .if1 .left) (c .before .before .before .setup .ensures) (c .number2 .ensures)
 
 pub stelquorum-setup-spec : {M : Type 1} → statement M
-stelquorum-setup-spec =
-    tie.close
-    (tie.spec
-    number-requires
-    returns
-    setup-requires
-    put-unit-requires
-    number-requires-2
-    same-length
-    returns-2)
+stelquorum-setup-spec = tie.close (tie.spec number-requires returns setup-requires number-requires-2 same-length returns-2)
