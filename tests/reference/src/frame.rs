@@ -127,7 +127,9 @@ fn number(frame: &[u8], at: usize) -> u16 {
 
 /// Reads a frame in place: its header and the number of its extension
 /// fields, or its fault. "Reading is left to right and the first fault is the
-/// answer, but 11 is tested first and 15 straight after octet 1."
+/// answer, but 11 is tested first and 15 straight after octet 1." Always part
+/// of the code that calls it: a header that is used on the spot is never put
+/// together.
 #[inline(always)]
 pub fn read(frame: &[u8]) -> Result<(Header, usize), u8> {
     if frame.len() > LONGEST {
@@ -201,7 +203,7 @@ fn fixed(frame: &[u8], present: bool, width: usize, at: &mut usize) -> Result<Op
 
 /// "sender, a length octet 1..32 and its octets"; "A length out of range is
 /// found before octets are missed."
-#[inline]
+#[inline(always)]
 fn sender(frame: &[u8], present: bool, at: &mut usize) -> Result<Option<Range<usize>>, u8> {
     if !present {
         return Ok(None);
@@ -216,7 +218,7 @@ fn sender(frame: &[u8], present: bool, at: &mut usize) -> Result<Option<Range<us
 
 /// "userData, a 2-octet length 0..512 and its octets"; "userData present with
 /// length 0 is not userData absent".
-#[inline]
+#[inline(always)]
 fn user_data(frame: &[u8], present: bool, at: &mut usize) -> Result<Option<Range<usize>>, u8> {
     if !present {
         return Ok(None);
@@ -244,7 +246,7 @@ fn span(frame: &[u8], start: usize, length: usize, at: &mut usize) -> Result<Ran
 /// is 12): tag 1..255, length 0..255, octets. Tags may repeat." The answer is
 /// how many there are; with bit 7 clear anything left is 16.
 #[inline]
-fn rest(mut octets: &[u8], follow: bool) -> Result<usize, u8> {
+fn rest(octets: &[u8], follow: bool) -> Result<usize, u8> {
     if !follow {
         return if octets.is_empty() {
             Ok(0)
@@ -252,29 +254,27 @@ fn rest(mut octets: &[u8], follow: bool) -> Result<usize, u8> {
             Err(LEFT_OVER)
         };
     }
-    let mut count = 0;
+    let (mut at, mut count) = (0, 0);
     loop {
-        octets = extension(octets)?;
+        let Some(&tag) = octets.get(at) else {
+            return Err(CUT);
+        };
+        if tag == 0 {
+            return Err(BAD_VALUE);
+        }
+        let Some(&length) = octets.get(at + 1) else {
+            return Err(CUT);
+        };
+        at += 2 + usize::from(length);
         count += 1;
-        if octets.is_empty() {
-            return Ok(count);
+        if at >= octets.len() {
+            return if at == octets.len() {
+                Ok(count)
+            } else {
+                Err(CUT)
+            };
         }
     }
-}
-
-/// One extension field: the octets after it.
-#[inline]
-fn extension(octets: &[u8]) -> Result<&[u8], u8> {
-    let Some((&tag, octets)) = octets.split_first() else {
-        return Err(CUT);
-    };
-    if tag == 0 {
-        return Err(BAD_VALUE);
-    }
-    let Some((&length, octets)) = octets.split_first() else {
-        return Err(CUT);
-    };
-    octets.get(usize::from(length)..).ok_or(CUT)
 }
 
 /// The whole message of a frame and the header read from it.

@@ -231,7 +231,10 @@ fn name_ends(name: &[u8; 32], letters: usize) -> bool {
 #[inline]
 fn list_ends(list: &[u16; PLACES], count: usize) -> bool {
     let four = |i: usize| {
-        u128::from(list[i]) | u128::from(list[i + 1]) << 16 | u128::from(list[i + 2]) << 32 | u128::from(list[i + 3]) << 48
+        u128::from(list[i])
+            | u128::from(list[i + 1]) << 16
+            | u128::from(list[i + 2]) << 32
+            | u128::from(list[i + 3]) << 48
     };
     (four(0) | four(4) << 64) & sixteen(&AFTER, 32 - 2 * count) == 0
 }

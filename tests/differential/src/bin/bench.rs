@@ -2,6 +2,7 @@
 //! each case the two are run in turn, several times, and the best time of each counts. `tests/bench` runs it and adds the instructions.
 //!   bench                        each case: name, ns an operation proved, ns hand-written, with tabs between
 //!   bench CASE SIDE ROUNDS       one case alone, `proved` or `written`, for callgrind
+//!   bench stack                  the stack that the events of each case take at most: name, octets proved, octets hand-written
 use reference::frame::{read, write, Parts};
 use reference::unit::{handle, setup};
 use std::hint::black_box;
@@ -167,12 +168,60 @@ fn run(work: &Work, proved: bool, rounds: usize) -> (f64, usize) {
     }
 }
 
+/// Octets of stack that a call takes, by words of eight: what is below is painted before it, and looked at after it.
+#[inline(never)]
+fn painted(call: &mut dyn FnMut()) -> usize {
+    const WORDS: usize = 1 << 12;
+    let here: *mut u64;
+    unsafe { std::arch::asm!("mov {}, rsp", out(reg) here) };
+    for i in 1..=WORDS {
+        unsafe { here.sub(i).write_volatile(0xa5c3_5a3c_a5c3_5a3c) };
+    }
+    call();
+    (1..=WORDS).rev().find(|&i| unsafe { here.sub(i).read_volatile() } != 0xa5c3_5a3c_a5c3_5a3c).unwrap_or(0) * 8
+}
+
+/// A call that takes no stack but its return address.
+#[inline(never)]
+extern "C" fn nothing(image: *mut u8, length: usize, event: *const u8, octets: usize, out: *mut u8, room: usize) -> u32 {
+    black_box(image as usize + length + event as usize + octets + out as usize + room) as u32
+}
+
+/// The most that an event of a case takes, on each side; what handing it over takes is not counted.
+fn stack(lead: &[Vec<u8>], repeated: &[Vec<u8>]) -> (usize, usize) {
+    let (mut out, mut image) = (vec![0u8; 1024], vec![0u8; 618]);
+    let mut u = setup(&hex("00ffffffffffff4731")).0;
+    unsafe { stelquorum_setup(image.as_mut_ptr(), 618, 65535, 65535, 65535, b"G1".as_ptr(), 2) };
+    let none = painted(&mut || {
+        black_box(nothing(image.as_mut_ptr(), 618, out.as_ptr(), 0, out.as_mut_ptr(), 1024));
+    });
+    let (mut ours, mut theirs) = (0, 0);
+    for e in lead.iter().chain(repeated).map(|e| black_box(e)) {
+        ours = ours.max(painted(&mut || {
+            black_box(unsafe { stelquorum_event(image.as_mut_ptr(), 618, e.as_ptr(), e.len(), out.as_mut_ptr(), 1024) });
+        }));
+        theirs = theirs.max(painted(&mut || {
+            let _ = black_box(handle(&mut u, e, &mut out));
+        }));
+    }
+    (ours - none, theirs - none)
+}
+
 fn main() {
     let args: Vec<String> = std::env::args().skip(1).collect();
     let all = cases();
     if let [case, side, rounds] = &args[..] {
         let (_, n) = run(&all[case.parse::<usize>().unwrap()].1, side == "proved", rounds.parse().unwrap());
         return println!("{n}");
+    }
+    if args == ["stack"] {
+        for (name, work) in &all {
+            if let Work::Events(lead, repeated) = work {
+                let (ours, theirs) = stack(lead, repeated);
+                println!("{name}\t{ours}\t{theirs}");
+            }
+        }
+        return;
     }
     for (name, work) in &all {
         let (mut ours, mut theirs) = (f64::MAX, f64::MAX);
