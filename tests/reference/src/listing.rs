@@ -174,25 +174,23 @@ impl<R: Read> Source<R> {
     }
 }
 
-/// The place of the first line feed. Whole steps first, without an early way
-/// out inside a step.
+/// The place of the first line feed, eight octets at a time: an octet of
+/// `other` is 0 where a line feed stands, and the lowest that is 0 is the
+/// first that borrows.
 #[inline]
 fn line_feed(octets: &[u8]) -> Option<usize> {
-    const STEP: usize = 32;
-    let mut at = 0;
-    for step in octets.chunks_exact(STEP) {
-        if step
-            .iter()
-            .fold(false, |found, &octet| found | (octet == b'\n'))
-        {
-            break;
+    const ONES: u64 = 0x0101_0101_0101_0101;
+    let (eights, rest) = octets.as_chunks::<8>();
+    for (i, eight) in eights.iter().enumerate() {
+        let other = u64::from_le_bytes(*eight) ^ (ONES * b'\n' as u64);
+        let found = other.wrapping_sub(ONES) & !other & (ONES << 7);
+        if found != 0 {
+            return Some(8 * i + found.trailing_zeros() as usize / 8);
         }
-        at += STEP;
     }
-    octets[at..]
-        .iter()
+    rest.iter()
         .position(|&octet| octet == b'\n')
-        .map(|more| at + more)
+        .map(|more| 8 * eights.len() + more)
 }
 
 /// The value of each lower-case digit; 0xff for a foreign character.
