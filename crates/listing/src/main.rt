@@ -1,5 +1,5 @@
 // The listing program: standard input to standard output, in blocks of 65,536 octets. What is printed is the work of `session`; here are the reads
-// and the writes.
+// and the writes, and the image of the unit, which is lent to it.
 ghost use mathlib.Core.Path.{_≡_};
 ghost use Prim.Native.Nat.{_≤_};
 ghost use lib.ListN.{length};
@@ -26,11 +26,9 @@ fn write_front(out: &[u8], n: usize) -> bool
 }
 
 // A session that takes no more lines.
-fn cut_short(s: Session) -> Session {
-    let unit = s.unit;
+fn cut_short() -> Session {
     let phase = Phase::Stopped;
     Session {
-        unit: unit,
         phase: phase,
         passing: false,
     }
@@ -38,11 +36,11 @@ fn cut_short(s: Session) -> Session {
 
 // The lines from a place of the block on, as many as have room: what they print is written, and the place is moved on. Where the output can't be
 // written, the session stops.
-fn take_some(s: Session, block: &[u8], from: usize, out: &mut [u8]) -> Fed
+fn take_some(s: Session, unit: &mut [u8; 618], block: &[u8], from: usize, out: &mut [u8]) -> Fed
     requires { ⌜ from ≤ length (now block) ⌝ }
     ensures { λ r. ⌜ (from ≤ r .taken) × (r .taken ≤ length (now (block .entry))) ⌝ }
 {
-    let fed = session::feed(s, &block[from..], out);
+    let fed = session::feed(s, unit, &block[from..], out);
     let written = fed.written;
     let session = fed.session;
     let taken = fed.taken;
@@ -55,14 +53,14 @@ fn take_some(s: Session, block: &[u8], from: usize, out: &mut [u8]) -> Fed
         };
     }
     Fed {
-        session: cut_short(session),
+        session: cut_short(),
         taken: from,
         written: 0,
     }
 }
 
 // All lines of the block but an open one.
-fn take_all(s: Session, block: &[u8], out: &mut [u8]) -> Fed
+fn take_all(s: Session, unit: &mut [u8; 618], block: &[u8], out: &mut [u8]) -> Fed
     ensures { λ r. ⌜ r .taken ≤ length (now (block .entry)) ⌝ }
 {
     let mut fed = Fed {
@@ -72,7 +70,7 @@ fn take_all(s: Session, block: &[u8], out: &mut [u8]) -> Fed
     };
     let mut from = 0;
     while from < block.len() {
-        let next = take_some(fed.session, block, from, out);
+        let next = take_some(fed.session, unit, block, from, out);
         if next.taken == from {
             return next;
         }
@@ -101,11 +99,11 @@ fn is_stopped(s: Session) -> bool {
 }
 
 // The n characters that the block holds, of which some were read just now.
-fn advance(s: Session, block: &mut [u8], n: usize, out: &mut [u8]) -> Progress
+fn advance(s: Session, unit: &mut [u8; 618], block: &mut [u8], n: usize, out: &mut [u8]) -> Progress
     requires { ⌜ (n ≤ length (now block)) × (length (now block) ≡ length (now out)) ⌝ }
     ensures { λ r. ⌜ r .held ≤ n ⌝ }
 {
-    let fed = take_all(s, &block[..n], out);
+    let fed = take_all(s, unit, &block[..n], out);
     let from = fed.taken;
     let session = fed.session;
     keep_rest(block, from, n, out);
@@ -117,8 +115,8 @@ fn advance(s: Session, block: &mut [u8], n: usize, out: &mut [u8]) -> Progress
 }
 
 // The end of the input.
-fn end(s: Session, held: &[u8], out: &mut [u8]) {
-    let n = session::finish(s, held, out);
+fn end(s: Session, unit: &[u8; 618], held: &[u8], out: &mut [u8]) {
+    let n = session::finish(s, unit, held, out);
     write_front(out, n);
 }
 
@@ -133,7 +131,7 @@ fn ended(s: Session) -> Progress
 }
 
 // One read. A read that fails ends the program without a further line of output, and says so.
-fn turn(p: Progress, block: &mut [u8], out: &mut [u8]) -> Progress
+fn turn(p: Progress, unit: &mut [u8; 618], block: &mut [u8], out: &mut [u8]) -> Progress
     requires { ⌜ (p .held ≤ length (now block)) × (length (now block) ≡ length (now out)) ⌝ }
     ensures { λ r. ⌜ r .held ≤ length (now (block .entry)) ⌝ }
 {
@@ -146,14 +144,14 @@ fn turn(p: Progress, block: &mut [u8], out: &mut [u8]) -> Progress
     }
     let n = io::count(got, &block[held..]);
     if n == 0 {
-        end(s, &block[..held], out);
+        end(s, unit, &block[..held], out);
         return ended(s);
     }
-    advance(s, block, held + n, out)
+    advance(s, unit, block, held + n, out)
 }
 
 // A proved loop has to end, and nothing says that an input does: the turns are counted down from a number that no run uses up.
-fn run(block: &mut [u8], out: &mut [u8])
+fn run(unit: &mut [u8; 618], block: &mut [u8], out: &mut [u8])
     requires { ⌜ length (now block) ≡ length (now out) ⌝ }
 {
     let s = session::fresh();
@@ -164,7 +162,7 @@ fn run(block: &mut [u8], out: &mut [u8])
     };
     let mut turns = u64::MAX;
     while 0 < turns {
-        p = turn(p, block, out);
+        p = turn(p, unit, block, out);
         if !p.more {
             return;
         }
@@ -175,5 +173,6 @@ fn run(block: &mut [u8], out: &mut [u8])
 fn main() {
     let mut block = io::large_buffer();
     let mut out = io::large_buffer();
-    run(&mut block, &mut out);
+    let mut unit = [0u8; 618];
+    run(&mut unit, &mut block, &mut out);
 }

@@ -10,16 +10,16 @@ slice-reshare-prefix-take-all : tie.Need-slice-reshare-prefix-take-all
 slice-reshare-prefix-take-all c = search needs
 
 slice-aggregate-take-all : tie.Need-slice-aggregate-take-all
-slice-aggregate-take-all c = sym (length-take-le _ (c .before .before .before .args .block .now) (search needs))
+slice-aggregate-take-all c = sym (length-take-le _ (c .before .before .before .before .args .block .now) (search needs))
 
 take-all-requires : tie.Need-take-all-requires
 take-all-requires c κs = search needs
 
 keep-rest-requires : tie.Need-keep-rest-requires
-keep-rest-requires c κs = let a = c .before .before .before .before .before .before .before .before .before .before .args in let h = length-take-le (a .n) (a .block .now) (c .before .before .before .before .before .before .before .before .before .before .pre .0) in (omega (arith, h, c .before .before .before .before .before .take-all .ensures), (c .before .before .before .before .before .before .before .before .before .before .pre .0, search needs))
+keep-rest-requires c κs = let a = c .before .before .before .before .before .before .before .before .before .before .before .args in let h = length-take-le (a .n) (a .block .now) (c .before .before .before .before .before .before .before .before .before .before .before .pre .0) in (omega (arith, h, c .before .before .before .before .before .take-all .ensures), (c .before .before .before .before .before .before .before .before .before .before .before .pre .0, search needs))
 
-sub-t17 : tie.Need-sub-t17
-sub-t17 c = let a = c .before .before .before .before .before .before .before .before .before .before .before .before .before .before .before .args in let h = length-take-le (a .n) (a .block .now) (c .before .before .before .before .before .before .before .before .before .before .before .before .before .before .before .pre .0) in omega (arith, h, c .before .before .before .before .before .before .before .before .before .before .take-all .ensures)
+sub-t19 : tie.Need-sub-t19
+sub-t19 c = let a = c .before .before .before .before .before .before .before .before .before .before .before .before .before .before .before .before .args in let h = length-take-le (a .n) (a .block .now) (c .before .before .before .before .before .before .before .before .before .before .before .before .before .before .before .before .pre .0) in omega (arith, h, c .before .before .before .before .before .before .before .before .before .before .take-all .ensures)
 
 is-stopped-requires : tie.Need-is-stopped-requires
 is-stopped-requires c κs = search needs
@@ -41,7 +41,7 @@ advance-spec =
     slice-aggregate-take-all
     take-all-requires
     keep-rest-requires
-    sub-t17
+    sub-t19
     is-stopped-requires
     same-length
     same-length-2

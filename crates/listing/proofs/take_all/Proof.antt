@@ -7,10 +7,10 @@ use Rattle.listing.proofs.take_all.Statement.{statement}
 use Rattle.listing.proofs.take_all.Tie as tie
 
 abbrev Inv-loop : tie.InvT-loop
-Inv-loop block out₀ fed₀ from₀ out fed from = (from ≤ length block) × (from ≡ fed .taken) × (length out ≡ length out₀)
+Inv-loop unit₀ block out₀ fed₀ from₀ unit out fed from = (from ≤ length block) × (from ≡ fed .taken) × (length out ≡ length out₀)
 
 abbrev μ-loop : tie.MeasureT-loop
-μ-loop block out₀ fed₀ from₀ out fed from = length block - from
+μ-loop unit₀ block out₀ fed₀ from₀ unit out fed from = length block - from
 
 loop-holds : tie.Need-loop-holds Inv-loop μ-loop
 loop-holds c = search needs
