@@ -54,12 +54,19 @@ fn tell_answers(said: &[u8], n: usize, out: &mut [u8]) -> bool
 }
 
 // One line, and what the session answers. The buffers have room for what any line prints.
-fn tell(s: Session, r: Reader, line: &[u8], out: &mut [u8], said: &mut [u8]) -> Told {
+fn tell(
+    s: Session,
+    unit: &mut [u8; 618],
+    r: Reader,
+    line: &[u8],
+    out: &mut [u8],
+    said: &mut [u8],
+) -> Told {
     let fed = words::feed(r, line, out);
     let written = fed.written;
     let reader = fed.reader;
     let is_written = write_front(out, written);
-    let answer = session::feed(s, line, said);
+    let answer = session::feed(s, unit, line, said);
     let n = answer.written;
     let session = answer.session;
     let is_told = tell_answers(said, n, out);
@@ -89,6 +96,7 @@ fn line_end(block: &[u8], from: usize) -> usize
 // The line from a place of the block up to an end.
 fn tell_next(
     t: Told,
+    unit: &mut [u8; 618],
     block: &[u8],
     from: usize,
     end: usize,
@@ -100,7 +108,7 @@ fn tell_next(
 {
     let s = t.session;
     let r = t.reader;
-    let next = tell(s, r, &block[from..end], out, said);
+    let next = tell(s, unit, r, &block[from..end], out, said);
     let session = next.session;
     let reader = next.reader;
     let more = next.more;
@@ -113,7 +121,14 @@ fn tell_next(
 }
 
 // All lines of the block but an open one.
-fn tell_all(s: Session, r: Reader, block: &[u8], out: &mut [u8], said: &mut [u8]) -> Told
+fn tell_all(
+    s: Session,
+    unit: &mut [u8; 618],
+    r: Reader,
+    block: &[u8],
+    out: &mut [u8],
+    said: &mut [u8],
+) -> Told
     ensures { λ t. ⌜ t .taken ≤ length (now (block .entry)) ⌝ }
 {
     let mut told = Told {
@@ -128,7 +143,7 @@ fn tell_all(s: Session, r: Reader, block: &[u8], out: &mut [u8], said: &mut [u8]
         if end <= from {
             return told;
         }
-        told = tell_next(told, block, from, end, out, said);
+        told = tell_next(told, unit, block, from, end, out, said);
         from = end;
         if !told.more {
             return told;
@@ -147,13 +162,20 @@ fn keep_rest(block: &mut [u8], from: usize, n: usize, out: &mut [u8])
 }
 
 // The n characters that the block holds, of which some were read just now.
-fn advance(p: Progress, block: &mut [u8], n: usize, out: &mut [u8], said: &mut [u8]) -> Progress
+fn advance(
+    p: Progress,
+    unit: &mut [u8; 618],
+    block: &mut [u8],
+    n: usize,
+    out: &mut [u8],
+    said: &mut [u8],
+) -> Progress
     requires { ⌜ (n ≤ length (now block)) × (length (now block) ≡ length (now out)) ⌝ }
     ensures { λ r. ⌜ r .held ≤ n ⌝ }
 {
     let s = p.session;
     let r = p.reader;
-    let told = tell_all(s, r, &block[..n], out, said);
+    let told = tell_all(s, unit, r, &block[..n], out, said);
     let from = told.taken;
     let session = told.session;
     let reader = told.reader;
@@ -168,10 +190,10 @@ fn advance(p: Progress, block: &mut [u8], n: usize, out: &mut [u8], said: &mut [
 }
 
 // The end of the input.
-fn end(s: Session, r: Reader, held: &[u8], out: &mut [u8], said: &mut [u8]) {
+fn end(s: Session, unit: &[u8; 618], r: Reader, held: &[u8], out: &mut [u8], said: &mut [u8]) {
     let n = words::finish(r, held, out);
     write_front(out, n);
-    let m = session::finish(s, held, said);
+    let m = session::finish(s, unit, held, said);
     tell_answers(said, m, out);
 }
 
@@ -187,7 +209,13 @@ fn ended(s: Session, r: Reader) -> Progress
 }
 
 // One read. A read that fails ends the program without a further line of output, and says so.
-fn turn(p: Progress, block: &mut [u8], out: &mut [u8], said: &mut [u8]) -> Progress
+fn turn(
+    p: Progress,
+    unit: &mut [u8; 618],
+    block: &mut [u8],
+    out: &mut [u8],
+    said: &mut [u8],
+) -> Progress
     requires { ⌜ (p .held ≤ length (now block)) × (length (now block) ≡ length (now out)) ⌝ }
     ensures { λ r. ⌜ r .held ≤ length (now (block .entry)) ⌝ }
 {
@@ -201,14 +229,14 @@ fn turn(p: Progress, block: &mut [u8], out: &mut [u8], said: &mut [u8]) -> Progr
     }
     let n = io::count(got, &block[held..]);
     if n == 0 {
-        end(s, r, &block[..held], out, said);
+        end(s, unit, r, &block[..held], out, said);
         return ended(s, r);
     }
-    advance(p, block, held + n, out, said)
+    advance(p, unit, block, held + n, out, said)
 }
 
 // A proved loop has to end, and nothing says that an input does: the turns are counted down from a number that no run uses up.
-fn run(block: &mut [u8], out: &mut [u8], said: &mut [u8])
+fn run(unit: &mut [u8; 618], block: &mut [u8], out: &mut [u8], said: &mut [u8])
     requires { ⌜ length (now block) ≡ length (now out) ⌝ }
 {
     let s = session::fresh();
@@ -221,7 +249,7 @@ fn run(block: &mut [u8], out: &mut [u8], said: &mut [u8])
     };
     let mut turns = u64::MAX;
     while 0 < turns {
-        p = turn(p, block, out, said);
+        p = turn(p, unit, block, out, said);
         if !p.more {
             return;
         }
@@ -233,5 +261,6 @@ fn main() {
     let mut block = io::large_buffer();
     let mut out = io::large_buffer();
     let mut said = [0u8; 4096];
-    run(&mut block, &mut out, &mut said);
+    let mut unit = [0u8; 618];
+    run(&mut unit, &mut block, &mut out, &mut said);
 }

@@ -10,16 +10,16 @@ slice-reshare-prefix-tell-all : tie.Need-slice-reshare-prefix-tell-all
 slice-reshare-prefix-tell-all c = search needs
 
 slice-aggregate-tell-all : tie.Need-slice-aggregate-tell-all
-slice-aggregate-tell-all c = sym (length-take-le _ (c .before .before .before .before .before .before .args .block .now) (search needs))
+slice-aggregate-tell-all c = sym (length-take-le _ (c .before .before .before .before .before .before .before .args .block .now) (search needs))
 
 tell-all-requires : tie.Need-tell-all-requires
 tell-all-requires c κs = search needs
 
 keep-rest-requires : tie.Need-keep-rest-requires
-keep-rest-requires c κs = let a = c .before .before .before .before .before .before .before .before .before .before .before .before .before .before .before .before .before .args in let h = length-take-le (a .n) (a .block .now) (c .before .before .before .before .before .before .before .before .before .before .before .before .before .before .before .before .before .pre .0) in (omega (arith, h, c .before .before .before .before .before .before .before .before .tell-all .ensures), (c .before .before .before .before .before .before .before .before .before .before .before .before .before .before .before .before .before .pre .0, search needs))
+keep-rest-requires c κs = let a = c .before .before .before .before .before .before .before .before .before .before .before .before .before .before .before .before .before .before .args in let h = length-take-le (a .n) (a .block .now) (c .before .before .before .before .before .before .before .before .before .before .before .before .before .before .before .before .before .before .pre .0) in (omega (arith, h, c .before .before .before .before .before .before .before .before .tell-all .ensures), (c .before .before .before .before .before .before .before .before .before .before .before .before .before .before .before .before .before .before .pre .0, search needs))
 
-sub-t24 : tie.Need-sub-t24
-sub-t24 c = let a = c .before .before .before .before .before .before .before .before .before .before .before .before .before .before .before .before .before .before .before .before .before .before .args in let h = length-take-le (a .n) (a .block .now) (c .before .before .before .before .before .before .before .before .before .before .before .before .before .before .before .before .before .before .before .before .before .before .pre .0) in omega (arith, h, c .before .before .before .before .before .before .before .before .before .before .before .before .before .tell-all .ensures)
+sub-t26 : tie.Need-sub-t26
+sub-t26 c = let a = c .before .before .before .before .before .before .before .before .before .before .before .before .before .before .before .before .before .before .before .before .before .before .before .args in let h = length-take-le (a .n) (a .block .now) (c .before .before .before .before .before .before .before .before .before .before .before .before .before .before .before .before .before .before .before .before .before .before .before .pre .0) in omega (arith, h, c .before .before .before .before .before .before .before .before .before .before .before .before .before .tell-all .ensures)
 
 same-length : tie.Need-same-length
 same-length c = search needs
@@ -41,7 +41,7 @@ advance-spec =
     slice-aggregate-tell-all
     tell-all-requires
     keep-rest-requires
-    sub-t24
+    sub-t26
     same-length
     same-length-2
     same-length-3

@@ -7,10 +7,10 @@ use Rattle.story.proofs.run.Statement.{statement}
 use Rattle.story.proofs.run.Tie as tie
 
 abbrev Inv-loop : tie.InvT-loop
-Inv-loop block₀ out₀ said₀ p₀ turns₀ block out said p turns = (p .held ≤ length block) × (length block ≡ length block₀) × (length out ≡ length out₀) × (length said ≡ length said₀) × (length block₀ ≡ length out₀)
+Inv-loop unit₀ block₀ out₀ said₀ p₀ turns₀ unit block out said p turns = (p .held ≤ length block) × (length block ≡ length block₀) × (length out ≡ length out₀) × (length said ≡ length said₀) × (length block₀ ≡ length out₀)
 
 abbrev μ-loop : tie.MeasureT-loop
-μ-loop block₀ out₀ said₀ p₀ turns₀ block out said p turns = turns
+μ-loop unit₀ block₀ out₀ said₀ p₀ turns₀ unit block out said p turns = turns
 
 fresh-requires : tie.Need-fresh-requires Inv-loop μ-loop
 fresh-requires c κs = search needs

@@ -7,10 +7,10 @@ use Rattle.story.proofs.tell_all.Statement.{statement}
 use Rattle.story.proofs.tell_all.Tie as tie
 
 abbrev Inv-loop : tie.InvT-loop
-Inv-loop block out₀ said₀ told₀ from₀ out said told from = (from ≤ length block) × (from ≡ told .taken) × (length out ≡ length out₀) × (length said ≡ length said₀)
+Inv-loop unit₀ block out₀ said₀ told₀ from₀ unit out said told from = (from ≤ length block) × (from ≡ told .taken) × (length out ≡ length out₀) × (length said ≡ length said₀)
 
 abbrev μ-loop : tie.MeasureT-loop
-μ-loop block out₀ said₀ told₀ from₀ out said told from = length block - from
+μ-loop unit₀ block out₀ said₀ told₀ from₀ unit out said told from = length block - from
 
 loop-holds : tie.Need-loop-holds Inv-loop μ-loop
 loop-holds c = search needs
