@@ -1,4 +1,2 @@
 pub mod CallLaws
-pub mod Bounds
-pub mod Agree
 pub mod OneResult

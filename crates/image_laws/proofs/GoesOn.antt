@@ -46,17 +46,17 @@ module _ (u : Value) (s : soundOf u ≡ true) where
   abbrev n₃ : Bool
   n₃ = both (ltb 0 (u .end)) n₂
 
-  letters : u .letters ≤ 32
+  pub letters-bound : u .letters ≤ 32
   unfolding soundOf setupSound withinLimits
-  letters =
+  letters-bound =
       let a = both-left (setupSound u) r₂ s in
       let b = both-left (both (ltb 0 (u .start)) n₃) (zeros (drop (u .letters) (u .name))) a in
       let c = both-right (ltb 0 (u .end)) n₂ (both-right (ltb 0 (u .start)) n₃ b) in
       leb-true (u .letters) 32 (both-right (ltb 0 (u .letters)) (leb (u .letters) 32) (both-right (ltb 0 (u .inactivity)) n₁ c))
 
-  count : u .count ≤ 8
+  pub count-bound : u .count ≤ 8
   unfolding soundOf idsSound
-  count =
+  count-bound =
       leb-true (u .count) 8
       (both-left (leb (u .count) 8) (both (differ (take (u .count) (u .waiting))) (zeros (drop (u .count) (u .waiting))))
       (both-left (idsSound (u .waiting) (u .count)) r₁ (both-right (setupSound u) r₂ s)))
@@ -65,9 +65,9 @@ module _ (u : Value) (s : soundOf u ≡ true) where
   unfolding soundOf
   kept-is = both-left (keptSound u) (stateSound u) (both-right (idsSound (u .waiting) (u .count)) r₁ (both-right (setupSound u) r₂ s))
 
-  octets : u .octets ≤ 554
+  pub octets-bound : u .octets ≤ 554
   unfolding keptSound keptGood keptNone
-  octets = go (eqb (u .state) 2) kept-is
+  octets-bound = go (eqb (u .state) 2) kept-is
     where
       go : (b : Bool) → pick b (keptGood u) (keptNone u) ≡ true → u .octets ≤ 554
       go true e =
@@ -85,9 +85,9 @@ pictured-back : (s : Setup) (k : ℕ) (a : Terms) (w f : List ℕ) (t : ℕ) →
     → unitOf (imageOf (pictured s k a w f t)) ≡ pictured s k a w f t
 pictured-back s k a w f t e =
     let u = pictured s k a w f t in
-    let l = letters u e in
-    let c = count u e in
-    let o = octets u e in
+    let l = letters-bound u e in
+    let c = count-bound u e in
+    let o = octets-bound u e in
     fitting-back u (padded-long 32 (s .name) l) (padded-long 8 w c) (padded-long 554 f o) (omega arith) (omega arith) (omega arith)
 
 pub picture-back : (s : Setup) (st : State) → soundOf (picture s st) ≡ true → unitOf (imageOf (picture s st)) ≡ picture s st

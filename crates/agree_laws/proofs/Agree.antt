@@ -21,7 +21,7 @@ use Rattle.image.specs.Image.{unitOf, cut, waitingOctets, restOctets, imageOf}
 use Rattle.image.specs.Answer.{outcomeOn, imageAfter, Handled}
 use Rattle.image.proofs.ImageLaws.{waiting-long, numbers-long}
 use Rattle.image.proofs.RoundTrip.{fitting-back}
-use Rattle.by_value.proofs.Bounds.{letters-bound, count-bound, octets-bound}
+use Rattle.image_laws.proofs.GoesOn.{letters-bound, count-bound, octets-bound}
 
 -- ---- an outcome of two units that are the same, or both unsound
 
