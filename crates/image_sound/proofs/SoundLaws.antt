@@ -1,15 +1,15 @@
 -- The tests of soundness over an image: what was read of it, as the rule of the unit that it stands for (book's Sound).
-use Prim.Native.Nat.{ℕ, zero, suc, _+_, _-_, _<_, _≤_}
+use Prim.Native.Nat.{ℕ, _+_, _-_, _<_, _≤_}
 use mathlib.Core.Path.{_≡_, refl, ap, sym, _∙_}
 use mathlib.Core.Bool.{Bool, true, false, not}
-use mathlib.Core.List.{List, [], _∷_, _++_}
+use mathlib.Core.List.{List, [], _∷_}
 use native.Mathlib.Omega.{arith}
 use native.Mathlib.Numerals.{add-one}
 use borrow.Author.Tests.{eq-eqb, ne-eqb, lt-leb, le-leb, lt-ltb}
-use lib.Dec.{eqb, ltb, leb}
-use lib.ListN.{length, take, drop, getD, length-drop, length-take, drop-of-length-le}
+use lib.Dec.{eqb, ltb}
+use lib.ListN.{length, take, drop, getD, length-drop, drop-of-length-le}
 use lib.Seq.{take-add, drop-at, drop-drop, length-take-le, drop-cons, getD-take, take-take}
-use Rattle.octets.specs.Choice.{pick, both, either}
+use Rattle.octets.specs.Choice.{both, either}
 use Rattle.book.specs.Sound.{zeros, differ, withinLimits, setupSound, idsSound, idleSound, busySound, limitOf, keptNone, keptReads, keptGood, keptSound, stateSound, soundOf}
 use Rattle.book.specs.Book.{waits}
 use Rattle.book.specs.View.{readingIn}

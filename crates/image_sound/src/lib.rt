@@ -1,7 +1,7 @@
 // Whether an image is one of a sound unit: every test reads the image where it stands.
 ghost use mathlib.Core.Path.{_≡_};
 ghost use Prim.Native.Nat.{_+_, _-_, _*_, _<_, _≤_};
-ghost use lib.Dec.{ltb, eqb};
+ghost use lib.Dec.{eqb};
 ghost use lib.ListN.{length, take, drop, getD};
 ghost use Rattle.octets.specs.Choice as Choice;
 ghost use Rattle.book.specs.Sound.{zeros, differ, setupSound, idsSound, idleSound, busySound, keptNone, keptReads, keptGood, keptSound, stateSound, soundOf};
@@ -12,37 +12,9 @@ ghost use Rattle.image.specs.Image.{unitOf};
 ghost use Rattle.image_sound.specs.Word.{number, power};
 use frame::Header;
 use frame::Reading;
-
-fn greater(a: u8, b: u8) -> u8
-    ensures { λ r. ⌜ r ≡ Choice.pick (ltb a b) b a ⌝ }
-{
-    if a < b { b } else { a }
-}
-
-// Whether all octets are 0. It looks at each, and not only up to the first that isn't: so the compiler can take many at once.
-fn clear(s: &[u8]) -> bool
-    ensures { λ r. ⌜ r ≡ zeros (now (s .entry)) ⌝ }
-{
-    let mut most = 0;
-    let mut i = 0;
-    while i < s.len() {
-        most = greater(most, s[i]);
-        i += 1;
-    }
-    most == 0
-}
-
-fn both(a: bool, b: bool) -> bool
-    ensures { λ r. ⌜ r ≡ Choice.both a b ⌝ }
-{
-    if a { b } else { false }
-}
-
-fn either(a: bool, b: bool) -> bool
-    ensures { λ r. ⌜ r ≡ Choice.either a b ⌝ }
-{
-    if a { true } else { b }
-}
+use state::sound::both;
+use state::sound::clear;
+use state::sound::either;
 
 fn wide(x: u8) -> u64
     ensures { λ r. ⌜ (r ≡ x) × (r < 256) ⌝ }

@@ -5,6 +5,9 @@ use Rattle.octets.specs.Contract.{Leaves}
 use Rattle.state.proofs.needed_value.Reads as needed-value
 use Rattle.state.proofs.events.event_of.Reads as event-of
 use Rattle.state.proofs.events.frame_from.Reads as frame-from
+use Rattle.state.proofs.sound.clear.Reads as clear
+use Rattle.state.proofs.sound.both.Reads as both
+use Rattle.state.proofs.sound.either.Reads as either
 use Rattle.state.proofs.sound.within_limits.Reads as within-limits
 use Rattle.state.proofs.sound.limit_of.Reads as limit-of
 use Rattle.state.proofs.sound.sound.Reads as sound
@@ -21,6 +24,15 @@ one-event-of κs a x y e f p q = p ∙ sym q
 
 pub one-frame-from : Leaves frame-from.Post (λ κs r e. r)
 one-frame-from κs a x y e f p q = p ∙ sym q
+
+pub one-clear : Leaves clear.Post (λ κs r e. r)
+one-clear κs a x y e f p q = p ∙ sym q
+
+pub one-both : Leaves both.Post (λ κs r e. r)
+one-both κs a x y e f p q = p ∙ sym q
+
+pub one-either : Leaves either.Post (λ κs r e. r)
+one-either κs a x y e f p q = p ∙ sym q
 
 pub one-within-limits : Leaves within-limits.Post (λ κs r e. r)
 one-within-limits κs a x y e f p q = p ∙ sym q

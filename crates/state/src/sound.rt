@@ -19,7 +19,7 @@ fn greater(a: u8, b: u8) -> u8
 }
 
 // Whether all octets are 0. It looks at each, and not only up to the first that isn't: so the compiler can take many at once.
-fn clear(s: &[u8]) -> bool
+pub fn clear(s: &[u8]) -> bool
     ensures { λ r. ⌜ r ≡ zeros (now (s .entry)) ⌝ }
 {
     let mut most = 0;
@@ -73,13 +73,13 @@ fn distinct(s: &[u16]) -> bool
     true
 }
 
-fn both(a: bool, b: bool) -> bool
+pub fn both(a: bool, b: bool) -> bool
     ensures { λ r. ⌜ r ≡ Choice.both a b ⌝ }
 {
     if a { b } else { false }
 }
 
-fn either(a: bool, b: bool) -> bool
+pub fn either(a: bool, b: bool) -> bool
     ensures { λ r. ⌜ r ≡ Choice.either a b ⌝ }
 {
     if a { true } else { b }

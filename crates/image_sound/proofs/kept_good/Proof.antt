@@ -1,9 +1,7 @@
 -- `image_sound::kept_good` meets its contract. Closed by laws of SoundLaws: the tail of zeros, then the frame that stands before it.
 use Rattle.image.specs.Image.{unitOf}
 use denote.Ref.{now}
-use Rattle.image_sound.proofs.SoundLaws.{good-many, good-by, kept-rest, reads-of}
-use Rattle.image_sound.proofs.SoundLaws.{kept-line}
-use mathlib.Core.Path.{_≡_, refl, sym, ap, _∙_}
+use Rattle.image_sound.proofs.SoundLaws.{good-many, good-by, kept-rest, reads-of, kept-line}
 use native.Mathlib.Omega.{arith}
 use borrow.Author.Needs.{needs}
 use Rattle.image_sound.proofs.kept_good.Statement.{statement}

@@ -4,7 +4,7 @@ use lib.Dec.{eqb}
 use Rattle.image.specs.Image.{unitOf}
 use denote.Ref.{now}
 use Rattle.state.proofs.KeptLaws.{says-more, says-plain, says-sure, says-note}
-use mathlib.Core.Path.{_≡_, refl, sym, ap, _∙_}
+use mathlib.Core.Path.{ap, _∙_}
 use borrow.Author.Needs.{needs}
 use Rattle.image_sound.proofs.kept_says.Statement.{statement}
 use Rattle.image_sound.proofs.kept_says.Tie as tie
