@@ -5,9 +5,9 @@ use mathlib.Core.Bool.{Bool, true, false}
 use mathlib.Core.List.{List, [], _∷_}
 use native.Mathlib.Numerals.{add-one}
 use native.Mathlib.Omega.{arith}
-use borrow.Author.Tests.{eq-eqb, ne-eqb, eqb-true, ltb-true, ltb-false}
-use lib.Dec.{eqb, ltb}
-use Rattle.octets.specs.Choice.{pick, both}
+use borrow.Author.Tests.{eq-eqb, ne-eqb, eqb-true, eqb-false}
+use lib.Dec.{eqb}
+use Rattle.octets.specs.Choice.{both}
 use lib.ListN.{length, take, drop, getD, length-drop, drop-of-length-le}
 use lib.Seq.{drop-cons, take-all}
 use Rattle.book.specs.Sound.{zeros, differ}
@@ -42,20 +42,19 @@ zeros-go s i h n e =
 pub zeros-end : (s : List ℕ) (i : ℕ) → length s ≤ i → zeros (drop i s) ≡ zeros s → true ≡ zeros s
 zeros-end s i h e = sym (at-end zeros s i h) ∙ e
 
--- the greatest entry so far is 0, and all that is left
-pub rest-go : (s : List ℕ) (i m x : ℕ) → i < length s → x ≡ pick (ltb m (getD s i 0)) (getD s i 0) m
+-- the bits so far are 0, and all that is left
+pub rest-go : (s : List ℕ) (i m x : ℕ) → i < length s → m ≤ x → getD s i 0 ≤ x → x ≤ m + getD s i 0
     → both (eqb m 0) (zeros (drop i s)) ≡ zeros s → both (eqb x 0) (zeros (drop (i + 1) s)) ≡ zeros s
-rest-go s i m x h q e = rw q (go (ltb m (getD s i 0)) refl (eqb m 0) refl (eqb (getD s i 0) 0) refl) ∙ rw (at-next zeros s i h) at e
+rest-go s i m x h p q r e = go (eqb m 0) refl (eqb (getD s i 0) 0) refl ∙ rw (at-next zeros s i h) at e
   where
-    go : (t : Bool) → t ≡ ltb m (getD s i 0) → (a : Bool) → a ≡ eqb m 0 → (b : Bool) → b ≡ eqb (getD s i 0) 0
-        → both (eqb (pick t (getD s i 0) m) 0) (zeros (drop (i + 1) s)) ≡ both (eqb m 0) (both (eqb (getD s i 0) 0) (zeros (drop (i + 1) s)))
-    go true p true q b r = let l = ltb-true m (getD s i 0) (sym p) in rw (eq-eqb m 0 (eqb-true m 0 (sym q)))
-    go true p false q b r = let l = ltb-true m (getD s i 0) (sym p) in rw (← q, ne-eqb (getD s i 0) 0 (λ z. omega arith))
-    go false p true q b r =
-        let l = ltb-false m (getD s i 0) (sym p) in
-        let z = eqb-true m 0 (sym q) in
-        rw (eq-eqb (getD s i 0) 0 (omega arith))
-    go false p false q b r = rw (← q)
+    go : (a : Bool) → a ≡ eqb m 0 → (b : Bool) → b ≡ eqb (getD s i 0) 0
+        → both (eqb x 0) (zeros (drop (i + 1) s)) ≡ both (eqb m 0) (both (eqb (getD s i 0) 0) (zeros (drop (i + 1) s)))
+    go true u true v =
+        let y = eqb-true m 0 (sym u) in
+        let z = eqb-true (getD s i 0) 0 (sym v) in
+        rw (← u, ← v, eq-eqb x 0 (omega arith))
+    go true u false v = let z = eqb-false (getD s i 0) 0 (sym v) in rw (← u, ← v, ne-eqb x 0 (λ w. z (omega arith)))
+    go false u b v = let z = eqb-false m 0 (sym u) in rw (← u, ne-eqb x 0 (λ w. z (omega arith)))
 
 pub rest-end : (s : List ℕ) (i m : ℕ) → length s ≤ i → both (eqb m 0) (zeros (drop i s)) ≡ zeros s → eqb m 0 ≡ zeros s
 rest-end s i m h e = go (eqb m 0) ∙ rw (at-end zeros s i h) at e

@@ -1,8 +1,7 @@
 // Whether a unit is sound.
 ghost use mathlib.Core.Path.{_≡_};
-ghost use Prim.Native.Nat.{_≤_};
-ghost use lib.Dec.{ltb};
-ghost use lib.ListN.{length, take, drop};
+ghost use Prim.Native.Nat.{_+_, _≤_};
+ghost use lib.ListN.{take, drop};
 ghost use Rattle.octets.specs.Choice as Choice;
 ghost use Rattle.book.specs.Sound.{zeros, differ, withinLimits, setupSound, idsSound, limitOf, idleSound, busySound, keptNone, keptReads, keptGood, keptSound, stateSound, soundOf};
 ghost use Rattle.book.specs.Book.{good, waits};
@@ -12,23 +11,24 @@ use book::Unit;
 use frame::Header;
 use frame::Reading;
 
-fn greater(a: u8, b: u8) -> u8
-    ensures { λ r. ⌜ r ≡ Choice.pick (ltb a b) b a ⌝ }
+// The bits of two octets in one: 0 only where both are.
+fn joined(a: u8, b: u8) -> u8
+    ensures { λ r. ⌜ (a ≤ r) × ((b ≤ r) × (r ≤ a + b)) ⌝ }
 {
-    if a < b { b } else { a }
+    a | b
 }
 
 // Whether all octets are 0. It looks at each, and not only up to the first that isn't: so the compiler can take many at once.
 pub fn clear(s: &[u8]) -> bool
     ensures { λ r. ⌜ r ≡ zeros (now (s .entry)) ⌝ }
 {
-    let mut most = 0;
+    let mut bits = 0;
     let mut i = 0;
     while i < s.len() {
-        most = greater(most, s[i]);
+        bits = joined(bits, s[i]);
         i += 1;
     }
-    most == 0
+    bits == 0
 }
 
 fn clear_ids(s: &[u16]) -> bool
