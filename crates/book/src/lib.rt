@@ -1,4 +1,5 @@
 // The types of the rule book: a unit, an event, what a turn answers. The rules themselves are in specs/, and have no code of their own.
+#![tactic(auto)]
 
 // Class, priority, and residual error rate: 1 low, 2 high, 0 not provided.
 #[derive(Drop)]

@@ -1,5 +1,7 @@
 // The first engine over an image of 618 octets: the unit taken out of it, turned by value, and put back. It stands beside the engine that changes the
 // image in place, to be compared with it.
+#![tactic(auto)]
+
 ghost use Rattle.std.specs.Prelude.{◌≡◌, length};
 ghost use Rattle.image.specs.Answer.{image_after, Handled};
 ghost use Rattle.by_value.specs.Numbered.{refusal_in, Numbered};

@@ -1,5 +1,7 @@
 // The unit for programs in C and Rust: setup, one event, and the frame's reader and writer, over numbers and octets alone. The caller holds the unit
 // as an image of 618 octets.
+#![tactic(auto)]
+
 ghost use Rattle.std.specs.Prelude.{◌≡◌, ◌<◌};
 ghost use Rattle.frame.specs.Writing.{message_of};
 ghost use Rattle.embed.specs.Answer.{number_of, counted, Answers, SetsUp};

@@ -1,4 +1,6 @@
 // The dialogue unit in place: one event changes the 618 octets that the caller lends. The same promise as crate unit's, through `unit_of`.
+#![tactic(auto)]
+
 ghost use Rattle.std.specs.Prelude.{◌≡◌, [], ◌≤◌, length, drop};
 ghost use Rattle.book.specs.Events.{event_of, frame_from};
 ghost use Rattle.book.specs.Picture.{setup_of, state_of};

@@ -1,5 +1,7 @@
 // `explain`: lines of a listing on standard input, each in plain words on standard output, in blocks of 65,536 octets. What is printed is the work of
 // `words`; here are the reads and the writes.
+#![tactic(auto)]
+
 ghost use Rattle.std.specs.Prelude.{◌≡◌, ◌≤◌, length};
 
 use words::Reader;

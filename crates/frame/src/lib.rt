@@ -1,4 +1,6 @@
 // The message frame: its types, and what may be asked of it. Rules: 01, "The message frame".
+#![tactic(auto)]
+
 ghost use Rattle.std.specs.Prelude.{◌≡◌, length};
 ghost use Rattle.std.proofs.lemmas.List.Edits.{sets};
 ghost use Rattle.frame.specs.Faults.{fault_number, refusal_number};

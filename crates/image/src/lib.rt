@@ -1,4 +1,6 @@
 // The image of a unit: each field of the unit that it stands for, read where it stands. An octet that isn't there counts as 0.
+#![tactic(auto)]
+
 ghost use Rattle.std.specs.Prelude.{◌≡◌, ◌<◌, get_or};
 ghost use Rattle.book.specs.Sound.{limit_of};
 ghost use Rattle.image.specs.Image.{two, unit_of};

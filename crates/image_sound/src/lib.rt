@@ -1,4 +1,6 @@
 // Whether an image is one of a sound unit: every test reads the image where it stands.
+#![tactic(auto)]
+
 ghost use Rattle.std.specs.Prelude.{◌≡◌, ◌+◌, ◌-◌, ◌*◌, ◌<◌, ◌≤◌, eqb, length, take, drop, get_or};
 ghost use Rattle.octets.specs.Choice as Choice;
 ghost use Rattle.book.specs.Sound.{zeros, differ, setup_sound, ids_sound, idle_sound, busy_sound, kept_none, kept_reads, kept_good, kept_sound, state_sound, sound_of};

@@ -1,5 +1,7 @@
 // The listing program: standard input to standard output, in blocks of 65,536 octets. What is printed is the work of `session`; here are the reads
 // and the writes, and the image of the unit, which is lent to it.
+#![tactic(auto)]
+
 ghost use Rattle.std.specs.Prelude.{◌≡◌, ◌≤◌, length};
 
 use session::{Fed, Phase, Session};

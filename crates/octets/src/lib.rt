@@ -1,4 +1,6 @@
 // Octets in a lent buffer: the one copy loop, on which every writer stands.
+#![tactic(auto)]
+
 ghost use Rattle.std.specs.Prelude.{◌≡◌, ◌<◌};
 ghost use Rattle.std.proofs.lemmas.List.Edits.{sets};
 ghost use Rattle.octets.specs.Put.{fitting};

@@ -1,4 +1,6 @@
 // What both engines say: the pen that lays lines, the notes that a unit makes itself, and the small questions that an event asks of terms and frames.
+#![tactic(auto)]
+
 ghost use Rattle.std.specs.Prelude.{◌≡◌, ◌+◌, ◌≤◌, eqb, length, drop, replicate};
 ghost use Rattle.std.proofs.lemmas.List.Edits.{sets};
 ghost use Rattle.octets.specs.Choice.{pick};

@@ -1,5 +1,7 @@
 // A session of the listing: text in, text out, in parts of any length. Rules: 01, "Events, lines and the listing". The caller holds the image of the
 // session's unit, 618 octets, and lends it.
+#![tactic(auto)]
+
 ghost use Rattle.std.specs.Prelude.{◌≡◌, true, ◌≤◌, ◌+◌, ◌-◌, ltb, length, take, drop};
 ghost use Rattle.octets.specs.Choice.{either};
 ghost use Rattle.octets.specs.Put.{Put};

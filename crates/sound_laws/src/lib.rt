@@ -1,1 +1,2 @@
 // No code: the laws of proofs/ say that a turn keeps a sound unit sound.
+#![tactic(auto)]

@@ -1,4 +1,6 @@
 // What is asked of a unit or an event alone: soundness, the waiting list, the turn table, the event that octets are.
+#![tactic(auto)]
+
 ghost use Rattle.std.specs.Prelude.{◌≡◌};
 ghost use Rattle.frame.specs.Decoding.{number_in};
 ghost use Rattle.book.specs.View.{needed};

@@ -1,5 +1,7 @@
 // `story`: a listing's input on standard input; on standard output each line in plain words, and under it, two spaces in, what the unit answers. The
 // words are the work of `words`, the answers of `session`; here are the reads, the writes and the turns of the two.
+#![tactic(auto)]
+
 ghost use Rattle.std.specs.Prelude.{◌≡◌, ◌≤◌, length};
 
 use session::{Phase, Session};

@@ -1,4 +1,6 @@
 // Lines of digits: where a line of the listing's input ends, the octets that it stands for, and octets printed as a line. Rules: 01, "Events, lines and the listing".
+#![tactic(auto)]
+
 ghost use Rattle.std.specs.Prelude.{◌≡◌, ◌≤◌, ◌<◌, ◌*◌, ◌+◌, ◌/◌, ◌%◌, length};
 ghost use Rattle.std.proofs.lemmas.List.Edits.{sets};
 ghost use Rattle.text.specs.Digits.{value_of};

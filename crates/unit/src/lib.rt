@@ -1,4 +1,6 @@
 // The dialogue unit: setup, one event, and the user data of an event. Rules: 01, "The five states".
+#![tactic(auto)]
+
 ghost use Rattle.std.specs.Prelude.{◌≡◌, ◌<◌, length};
 ghost use Rattle.book.specs.Book as Book;
 ghost use Rattle.book.specs.Step.{step, turn_of, Turned, set_up};

@@ -1,5 +1,7 @@
 // Lines of a listing in plain words: text in, text out, in parts of any length. The rules are 01's, "Events, lines and the listing"; the words are in
 // specs/Lines and in crate `phrases`.
+#![tactic(auto)]
+
 ghost use Rattle.std.specs.Prelude.{◌≡◌, true, false, ◌++◌, ◌≤◌, ◌+◌, ◌-◌, ltb, length, drop};
 ghost use Rattle.octets.specs.Choice.{either};
 ghost use Rattle.octets.specs.Put.{Put};

@@ -1,0 +1,183 @@
+#!/usr/bin/env python3
+"""Turns the Proof.antt of an older Rattle into Invariants.antt and Answers.antt.
+
+usage: python3 tools/answers.py CRATE NAMES        at the top of the repository; NAMES is the names.json of
+                                                   rt check --generated DIR --old-names, run in the crate's folder
+
+An answer that only searches the rules goes, since the check finds it alone. Steps lose their `.before` and take their new names.
+Each Proof.antt that is turned is removed; what could not be turned is printed.
+"""
+import json
+import os
+import re
+import sys
+
+WORD = r"[^\s(){}.;,@\"«»\[\]\\]+"
+DROPPED = ("Statement.{statement}", "Tie as tie")
+
+
+def flat(name):
+    return re.sub("-+", "-", name.replace("_", "-"))
+
+
+def blocks(text):
+    """A file's head, and its declarations: a signature with what stands below it."""
+    out, block = [], []
+    for line in text.split("\n"):
+        if line.strip() == "" and block:
+            out.append(block)
+            block = []
+        elif line.strip():
+            block.append(line)
+    return [*out, block] if block else out
+
+
+class Names:
+    def __init__(self, of):
+        self.goals = {flat(old): new for old, new in of["needs"]}
+        self.settled = {flat(it) for it in of["settled"]}
+        self.steps = {}
+        for place in of["places"]:
+            old, new = place[2]
+            if old:
+                self.steps.setdefault(flat(old), new)
+        self.loops = {}
+        for ((old, new), variables), changed in zip(of["loops"], of["changed"]):
+            self.loops[flat(old)] = (new, variables, changed)
+
+
+def path(m, names, said):
+    """A path from a context: c.before.before.step.field -> c.step.field"""
+    head, rest = m.group(1), m.group(2)
+    fields = [f for f in rest.split(".")[1:] if f != "before"]
+    fields = [f.strip("«»") if f.strip("«»") in ("data",) and i == 0 else f for i, f in enumerate(fields)]
+    if fields:
+        got = names.steps.get(flat(fields[0]))
+        if got is not None:
+            fields[0] = got
+    return ".".join([head, *fields])
+
+
+def walked(body, names):
+    """A body's paths. A name that a let binds to a part of the way is that way again."""
+    field = r"(?:\.(?:«[^»]*»|" + WORD + r"))"
+    return re.sub(r"(?<![^\s(,\[{])(" + r"[A-Za-z][\w₀-₉'-]*" + r")(" + field + r"+)", lambda m: path(m, names, None), body)
+
+
+def invariant(params, body, variables, changed):
+    at = {}
+    it = iter(params)
+    for v, c in zip(variables, changed):
+        at[next(it)] = f"l.initial.{v}" if c else f"l.{v}"
+    for v, c in zip(variables, changed):
+        if c:
+            at[next(it)] = f"l.{v}"
+    return re.sub(r"(?<![\w.«'-])(" + WORD + r")", lambda m: at.get(m.group(1), m.group(1)), body)
+
+
+def turned(text, names, where):
+    head, uses, answers, invariants, said = [], [], [], [], []
+    parts = blocks(text)
+    for block in parts:
+        first = [l for l in block if not l.startswith(("--", "use "))]
+        head += [l for l in block if l.startswith("--")] if not answers and not invariants else []
+        uses += [l for l in block if l.startswith("use ") and not l.endswith(DROPPED)]
+        if not first:
+            continue
+        m = re.match(r"(abbrev )?(?:pub )?(" + WORD + r") : (.*)", first[0])
+        if not m:
+            said.append("left: " + first[0])
+            answers.append("\n".join(first))
+            continue
+        _, name, kind = m.groups()
+        body = "\n".join(first[1:])
+        if "tie.close" in body:
+            continue
+        k = re.match(r"tie\.(invariant|decreases)-(\S+)", kind)
+        if k:
+            loop = names.loops.get(flat(k.group(2)))
+            b = re.match(r"(\S+)((?: \S+)*?) =(.*)", body, re.S)
+            if loop is None or b is None:
+                said.append("left: " + first[0])
+                continue
+            new, variables, changed = loop
+            said_name = f"{k.group(1)}-{new}"
+            invariants.append(f"abbrev pub {said_name} : goal.{said_name}\n{said_name} l ={invariant(b.group(2).split(), b.group(3), variables, changed)}")
+            continue
+        k = re.match(r"tie\.Need-(\S+)", kind)
+        if not k:
+            answers.append("\n".join(first))
+            continue
+        old = re.sub(r"^overflow-", "", flat(k.group(1)))
+        new = names.goals.get(flat(k.group(1))) or names.goals.get(old)
+        lines = first[1:]
+        opens = []
+        while lines and lines[0].startswith("unfolding "):
+            opens.append(lines.pop(0))
+        body = "\n".join(lines)
+        b = re.match(r"\S+ (\S+)(?: κs)? =(.*)", body, re.S)
+        if not b:
+            said.append("left: " + first[0])
+            continue
+        if b.group(2).strip() == "search rules":
+            continue
+        if new is None:
+            said.append(("gone: " if flat(k.group(1)) in names.settled else "no goal: ") + first[0])
+            continue
+        answers.append("\n".join([f"pub {new} : goal.{new}", *opens, f"{new} {b.group(1)} ={walked(b.group(2), names)}"]))
+    return head, uses, answers, invariants, said
+
+
+def used(uses, text):
+    """The lines of use that a text needs."""
+    out = []
+    words = set(re.findall(WORD, text)) | {w for it in re.findall(WORD, text) for w in re.split(r"[◌]", it)}
+    for line in uses:
+        m = re.match(r"use (\S+)\.\{(.*)\}$", line)
+        if not m:
+            alias = line.split()[-1].split(".")[-1]
+            if re.search(r"(?<![\w-])" + re.escape(alias) + r"\.", text):
+                out.append(line)
+            continue
+        names = [n.strip() for n in m.group(2).split(",")]
+        kept = [n for n in names if n.split(" as ")[-1] in words or (n.startswith("◌") and n.strip("◌") in words)]
+        if kept:
+            out.append(f"use {m.group(1)}.{{{', '.join(kept)}}}")
+    return out
+
+
+def main():
+    crate, listed = sys.argv[1:3]
+    with open(listed, encoding="utf-8") as f:
+        every = json.load(f)
+    by_path = {}
+    for module, of in every.items():
+        if ".Lts" in module:
+            by_path[module.split(".", 1)[1].rsplit(".Lts", 1)[0].replace(".", "/")] = of
+    top = f"crates/{crate}/proofs"
+    for folder, _, files in sorted(os.walk(top)):
+        if "Proof.antt" not in files:
+            continue
+        where = os.path.relpath(folder, top)
+        if where not in by_path:
+            print(f"{folder}: no names")
+            continue
+        file = os.path.join(folder, "Proof.antt")
+        with open(file, encoding="utf-8") as f:
+            text = f.read()
+        head, uses, answers, invariants, said = turned(text, Names(by_path[where]), where)
+        module = f"Rattle.{crate}.proofs." + where.replace("/", ".")
+        os.remove(file)
+        for name, of, goals in (("Answers", answers, "Goals"), ("Invariants", invariants, "Given")):
+            if of:
+                body = "\n\n".join(of)
+                lines = [*head, *used(uses, body), f"use {module}.{goals} as goal", "", body, ""]
+                with open(os.path.join(folder, name + ".antt"), "w", encoding="utf-8") as f:
+                    f.write("\n".join(lines))
+        for it in said:
+            print(f"{folder}: {it}")
+        if not os.listdir(folder):
+            os.removedirs(folder)
+
+
+main()
