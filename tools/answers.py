@@ -41,27 +41,55 @@ class Names:
             old, new = place[2]
             if old:
                 self.steps.setdefault(flat(old), new)
+        self.arms = {}
+        for arm in of["arms"]:
+            if arm:
+                for field, step, way in arm[2]:
+                    if way:
+                        self.arms.setdefault((flat(step), tuple(way)), (arm[0], field))
         self.loops = {}
         for ((old, new), variables), changed in zip(of["loops"], of["changed"]):
             self.loops[flat(old)] = (new, variables, changed)
 
 
-def path(m, names, said):
+FIELD = r"(?:\.(?:«[^»]*»|" + WORD + r"))"
+NAME = r"[A-Za-z][\w₀-₉'-]*"
+
+
+def fields_of(text):
+    return [f for f in re.findall(r"«[^»]*»|[^.]+", text) if f != "before"]
+
+
+def path(head, rest, names):
     """A path from a context: c.before.before.step.field -> c.step.field"""
-    head, rest = m.group(1), m.group(2)
-    fields = [f for f in rest.split(".")[1:] if f != "before"]
-    fields = [f.strip("«»") if f.strip("«»") in ("data",) and i == 0 else f for i, f in enumerate(fields)]
-    if fields:
-        got = names.steps.get(flat(fields[0]))
-        if got is not None:
-            fields[0] = got
-    return ".".join([head, *fields])
+    fields = fields_of(rest)
+    if not fields:
+        return head
+    old = flat(fields[0].strip("«»"))
+    for n in range(len(fields), 1, -1):
+        if (old, tuple(fields[1:n])) in names.arms:
+            return ".".join([head, *names.arms[old, tuple(fields[1:n])], *fields[n:]])
+    return ".".join([head, names.steps.get(old, fields[0]), *fields[1:]])
 
 
 def walked(body, names):
-    """A body's paths. A name that a let binds to a part of the way is that way again."""
-    field = r"(?:\.(?:«[^»]*»|" + WORD + r"))"
-    return re.sub(r"(?<![^\s(,\[{])(" + r"[A-Za-z][\w₀-₉'-]*" + r")(" + field + r"+)", lambda m: path(m, names, None), body)
+    """A body's paths. A name that a let binds to a place on the way is the context too, and one that it binds to what an arm gives is written out."""
+    contexts, gives = {"c"}, {}
+    for m in re.finditer(r"let (" + NAME + r") = (" + NAME + r")(" + FIELD + r"*) in", body):
+        fields = fields_of(m.group(3))
+        if m.group(2) in contexts and not fields:
+            contexts.add(m.group(1))
+        elif m.group(2) in contexts and fields[-1] == "given":
+            gives[m.group(1)] = "c" + m.group(3)
+    for name, way in gives.items():
+        body = re.sub(r" *let " + re.escape(name) + r" = \S+ in\n?", "", body)
+        body = re.sub(r"(?<![\w.«'-])" + re.escape(name) + r"(?=\.)", way, body)
+    body = re.sub(r"\n? *let (" + NAME + r") = (" + NAME + r")((?:\.before)*) in(?=[ \n])", lambda m: "" if m.group(2) in contexts else m.group(0), body)
+
+    def one(m):
+        return path("c", m.group(2), names) if m.group(1) in contexts else m.group(0)
+
+    return re.sub(r"(?<![\w.«'₀-₉-])(" + NAME + r")(" + FIELD + r"*)", one, body)
 
 
 def invariant(params, body, variables, changed):

@@ -2,7 +2,7 @@
 #![tactic(auto)]
 
 // Class, priority, and residual error rate: 1 low, 2 high, 0 not provided.
-#[derive(Drop)]
+#[derive(Clone, Copy)]
 pub struct Terms {
     pub class: u8,
     pub priority: u8,
@@ -10,7 +10,7 @@ pub struct Terms {
 }
 
 // A unit, held by the caller. What a state does not use is 0.
-#[derive(Drop)]
+#[derive(Clone, Copy)]
 pub struct Unit {
     // The unit's name, in the first `letters` places.
     pub name: [u8; 32],
@@ -34,7 +34,7 @@ pub struct Unit {
 }
 
 // An event, read from its octets.
-#[derive(Drop)]
+#[derive(Clone, Copy)]
 pub enum Event {
     // Refusal 8.
     Malformed,
@@ -61,21 +61,21 @@ pub enum Event {
 }
 
 // Where an identifier stands in the waiting list.
-#[derive(Drop)]
+#[derive(Clone, Copy)]
 pub enum Found {
     Place(usize),
     Nowhere,
 }
 
 // How many lines an event gave and how many octets of the buffer they take, or the refusal's number.
-#[derive(Drop)]
+#[derive(Clone, Copy)]
 pub enum Verdict {
     Done { lines: usize, octets: usize },
     Refused(u8),
 }
 
 // The unit after an event, and the answer.
-#[derive(Drop)]
+#[derive(Clone, Copy)]
 pub struct Turn {
     pub unit: Unit,
     pub verdict: Verdict,

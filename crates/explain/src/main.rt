@@ -7,7 +7,7 @@ ghost use Rattle.std.specs.Prelude.{◌≡◌, ◌≤◌, length};
 use words::Reader;
 
 // The reader, how many characters at the front of the block are held, and whether the input goes on.
-#[derive(Drop)]
+#[derive(Clone, Copy)]
 struct Progress {
     reader: Reader,
     held: usize,
@@ -15,7 +15,7 @@ struct Progress {
 }
 
 // What was taken of a block, and whether what that prints could be written.
-#[derive(Drop)]
+#[derive(Clone, Copy)]
 struct Took {
     reader: Reader,
     taken: usize,

@@ -17,7 +17,7 @@ mod reader;
 mod writer;
 
 // What may be wrong with a frame: 11, 12, 13, 14, 15, 16.
-#[derive(Drop)]
+#[derive(Clone, Copy)]
 pub enum Fault {
     TooLong,
     Incomplete,
@@ -28,14 +28,14 @@ pub enum Fault {
 }
 
 // A field that may be absent: where its octets stand (after its length, where it has one), and how many they are.
-#[derive(Drop)]
+#[derive(Clone, Copy)]
 pub enum Field {
     Absent,
     At { start: usize, len: usize },
 }
 
 // A whole message: what its first two octets say, and where its fields stand.
-#[derive(Drop)]
+#[derive(Clone, Copy)]
 pub struct Header {
     pub multi_shot: bool,
     pub confirmation: u8,
@@ -49,28 +49,28 @@ pub struct Header {
 }
 
 // What reading a frame answers: the whole message and how many extension fields follow it, or the fault.
-#[derive(Drop)]
+#[derive(Clone, Copy)]
 pub enum Reading {
     Whole { header: Header, extensions: usize },
     Faulty(Fault),
 }
 
 // The value of a type.
-#[derive(Drop)]
+#[derive(Clone, Copy)]
 pub enum OneOctet {
     NoOctet,
     Octet(u8),
 }
 
 // The value of an identifier or a reference.
-#[derive(Drop)]
+#[derive(Clone, Copy)]
 pub enum TwoOctets {
     NoNumber,
     Number(u16),
 }
 
 // What the writer is given by value; the octets of sender and user data are lent beside it.
-#[derive(Drop)]
+#[derive(Clone, Copy)]
 pub struct Parts {
     pub multi_shot: bool,
     pub confirmation: u8,
@@ -82,14 +82,14 @@ pub struct Parts {
 }
 
 // Why nothing was written: the lent buffer is below 1,024 octets (6), or a fault.
-#[derive(Drop)]
+#[derive(Clone, Copy)]
 pub enum Refusal {
     NoRoom,
     Faulty(Fault),
 }
 
 // How many octets were written, or why none.
-#[derive(Drop)]
+#[derive(Clone, Copy)]
 pub enum Written {
     Octets(usize),
     Refused(Refusal),

@@ -7,21 +7,21 @@ use crate::{Fault, Field, Header, Reading};
 use octets::wide;
 
 // What a field reader answers.
-#[derive(Drop)]
+#[derive(Clone, Copy)]
 pub(crate) enum Step {
     Got(Field, usize),
     Bad(Fault),
 }
 
 // What the first two octets answer: themselves, or the fault.
-#[derive(Drop)]
+#[derive(Clone, Copy)]
 pub(crate) enum Opening {
     Open(u8, u8),
     Shut(Fault),
 }
 
 // What stands after the fields: so many extension fields, or the fault.
-#[derive(Drop)]
+#[derive(Clone, Copy)]
 pub(crate) enum Rest {
     Fields(usize),
     Wrong(Fault),

@@ -9,7 +9,7 @@ ghost use Rattle.frame.specs.Writing.{lent, message_of, PutField, Room, wrong_se
 use crate::{Fault, OneOctet, Parts, Refusal, TwoOctets, reader};
 
 // Whether the parts may be written, or what they are refused with.
-#[derive(Drop)]
+#[derive(Clone, Copy)]
 pub(crate) enum Check {
     Fits,
     Fails(Refusal),

@@ -7,7 +7,7 @@ ghost use Rattle.std.specs.Prelude.{◌≡◌, ◌≤◌, length};
 use session::{Fed, Phase, Session};
 
 // The session, how many characters at the front of the block are held, and whether the input goes on.
-#[derive(Drop)]
+#[derive(Clone, Copy)]
 struct Progress {
     session: Session,
     held: usize,

@@ -13,14 +13,14 @@ use book::Terms;
 use frame::{Header, OneOctet};
 
 // Where the next line goes, and how many lines stand before it.
-#[derive(Drop)]
+#[derive(Clone, Copy)]
 pub struct Pen {
     pub at: usize,
     pub lines: usize,
 }
 
 // What a confirmation that the unit makes itself says beside the unit's name.
-#[derive(Drop)]
+#[derive(Clone, Copy)]
 pub struct Note {
     pub multi_shot: bool,
     pub confirmation: u8,
@@ -29,7 +29,7 @@ pub struct Note {
 }
 
 // What all the answers of one event say beside the identifier.
-#[derive(Drop)]
+#[derive(Clone, Copy)]
 pub struct Say {
     pub result: u8,
     pub multi_shot: bool,

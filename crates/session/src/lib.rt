@@ -14,14 +14,14 @@ mod answers;
 mod walk;
 
 // Before the first line; after a good setup; after any other first line.
-#[derive(Drop)]
+#[derive(Clone, Copy)]
 pub enum Phase {
     First,
     Running,
     Stopped,
 }
 
-#[derive(Drop)]
+#[derive(Clone, Copy)]
 pub struct Session {
     pub phase: Phase,
     // A line that is too long is being passed over.
@@ -29,7 +29,7 @@ pub struct Session {
 }
 
 // The session after a part of its input, how many characters of it were taken, and how many were written.
-#[derive(Drop)]
+#[derive(Clone, Copy)]
 pub struct Fed {
     pub session: Session,
     pub taken: usize,

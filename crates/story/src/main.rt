@@ -8,7 +8,7 @@ use session::{Phase, Session};
 use words::Reader;
 
 // The session, the reader of its input, how many characters at the front of the block are held, and whether the story goes on.
-#[derive(Drop)]
+#[derive(Clone, Copy)]
 struct Progress {
     session: Session,
     reader: Reader,
@@ -17,7 +17,7 @@ struct Progress {
 }
 
 // The same after some characters of a block.
-#[derive(Drop)]
+#[derive(Clone, Copy)]
 struct Told {
     session: Session,
     reader: Reader,

@@ -8,7 +8,7 @@ ghost use Rattle.text.specs.Reading.{least, leading, feed_from, line_in};
 ghost use Rattle.text.specs.Printing.{digit_of, digits_of, fits, printed_in};
 
 // The next line of the input.
-#[derive(Drop)]
+#[derive(Clone, Copy)]
 pub enum Line {
     // The octets that it stands for, and the place after its line feed.
     Octets(usize, usize),

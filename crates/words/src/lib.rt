@@ -16,7 +16,7 @@ mod inputs;
 mod outputs;
 mod parts;
 
-#[derive(Drop)]
+#[derive(Clone, Copy)]
 pub struct Reader {
     // Each line of the output begins with two spaces.
     pub indented: bool,
@@ -25,7 +25,7 @@ pub struct Reader {
 }
 
 // The reader after a part of its input, how many characters of it were taken, and how many were written.
-#[derive(Drop)]
+#[derive(Clone, Copy)]
 pub struct Fed {
     pub reader: Reader,
     pub taken: usize,
