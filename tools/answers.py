@@ -156,24 +156,6 @@ def turned(text, names, where):
     return head, uses, answers, invariants, said
 
 
-def used(uses, text):
-    """The lines of use that a text needs."""
-    out = []
-    words = set(re.findall(WORD, text)) | {w for it in re.findall(WORD, text) for w in re.split(r"[◌]", it)}
-    for line in uses:
-        m = re.match(r"use (\S+)\.\{(.*)\}$", line)
-        if not m:
-            alias = line.split()[-1].split(".")[-1]
-            if re.search(r"(?<![\w-])" + re.escape(alias) + r"\.", text):
-                out.append(line)
-            continue
-        names = [n.strip() for n in m.group(2).split(",")]
-        kept = [n for n in names if n.split(" as ")[-1] in words or (n.startswith("◌") and n.strip("◌") in words)]
-        if kept:
-            out.append(f"use {m.group(1)}.{{{', '.join(kept)}}}")
-    return out
-
-
 def main():
     crate, listed = sys.argv[1:3]
     with open(listed, encoding="utf-8") as f:
@@ -199,7 +181,7 @@ def main():
         for name, of, goals in (("Answers", answers, "Goals"), ("Invariants", invariants, "Given")):
             if of:
                 body = "\n\n".join(of)
-                lines = [*head, *used(uses, body), f"use {module}.{goals} as goal", "", body, ""]
+                lines = [*head, *uses, f"use {module}.{goals} as goal", "", body, ""]
                 with open(os.path.join(folder, name + ".antt"), "w", encoding="utf-8") as f:
                     f.write("\n".join(lines))
         for it in said:

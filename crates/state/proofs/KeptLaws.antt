@@ -29,7 +29,7 @@ more u f zero h = absurd (h refl)
 more u f (suc n) h = refl
 
 as_view : (u : Value) {f g : Frame} {n : ℕ} → f ≡ g → n ≡ 0 → kept_reads u (good g 0) ≡ kept_reads u (good f n)
-as_view u p z = rw (p, z)
+as_view u {f} {g} p z = ap (λ w. kept_reads u (good w 0)) (sym p) ∙ ap (λ m. kept_reads u (good f m)) (sym z)
 
 module _ (u : Value) (s : List ℕ) (h : Header) {n : ℕ} where
   pub says_more : (n ≡ 0 → ⊥) → false ≡ kept_reads u (good (frame_at s h) n)

@@ -1,0 +1,13 @@
+-- `state::events::transfer` meets its contract. Closed by laws of EventLaws, one for each way out.
+use Rattle.state.proofs.EventLaws.{terms_short, terms_high, transfer_right}
+use borrow.Author.Rules.{rules}
+use Rattle.state.proofs.events.transfer.Goals as goal
+
+pub returns-then-s-lt4 : goal.returns-then-s-lt4
+returns-then-s-lt4 c = search terms_short
+
+pub returns-then-s-gt2 : goal.returns-then-s-gt2
+returns-then-s-gt2 c = search (terms_high, rules)
+
+pub returns : goal.returns
+returns c = search (transfer_right, rules)
