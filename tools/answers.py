@@ -33,6 +33,13 @@ def blocks(text):
 
 
 class Names:
+    def known(self, step):
+        """A step's name as the list has it: respelling may have taken it for a lemma, and an older Rattle counted where today's does not."""
+        for name in (step, re.sub("-lem(?=\\d*$)", "", step), re.sub(r"\d+$", "", step), re.sub(r"(-lem)?\d+$", "", step)):
+            if name in self.steps:
+                return name
+        return step
+
     def __init__(self, of):
         self.goals = {flat(old): new for old, new in of["needs"]}
         self.settled = {flat(it) for it in of["settled"]}
@@ -65,7 +72,7 @@ def path(head, rest, names):
     fields = fields_of(rest)
     if not fields:
         return head
-    old = flat(fields[0].strip("«»"))
+    old = names.known(flat(fields[0].strip("«»")))
     for n in range(len(fields), 1, -1):
         if (old, tuple(fields[1:n])) in names.arms:
             return ".".join([head, *names.arms[old, tuple(fields[1:n])], *fields[n:]])
