@@ -154,7 +154,7 @@ def turned(text, names, where):
         if not b:
             said.append("left: " + first[0])
             continue
-        if b.group(2).strip() == "search rules":
+        if b.group(2).strip() == "search rules" and not opens:
             continue
         if new is None:
             said.append(("gone: " if flat(k.group(1)) in names.settled else "no goal: ") + first[0])

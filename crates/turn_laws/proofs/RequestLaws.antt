@@ -249,11 +249,11 @@ module _ {u : Value} (k : Ready u) {f : List ℕ} {h : Header} (w : Reads f h 0)
           on_multi (bar a (msg_at f h) (state_of u)) a (msg_at f h) (state_of u) ≡ refused 3
       ask_3 et eb z =
           ap (λ o. on_multi o a M T)
-          (bar_is S u T k.whole n a M ∙ ap (λ y. pick y (bar_confirmed M (ids_in u)) (some 3)) (ap (λ y. same_terms y u.terms) (sym et) ∙ sym eb ∙ borrow.Author.Tests.not_true _ z))
+          (bar_is S u T k.whole n a M ∙ ap (λ y. pick y (bar_confirmed M (ids_in u)) (some 3)) (ap (λ y. same_terms y u.terms) (sym et) ∙ sym eb ∙ borrow.Author.Tests.not-true _ z))
           ∙ refused_is S u T k.whole n 3 a M
 
       pub same_made : {t : Terms} {b : Bool} → t ≡ settled a → b ≡ same_terms t u.terms → not b ≡ false → same_terms (settled a) u.terms ≡ true
-      same_made et eb z = ap (λ y. same_terms y u.terms) (sym et) ∙ sym eb ∙ borrow.Author.Tests.not_false _ z
+      same_made et eb z = ap (λ y. same_terms y u.terms) (sym et) ∙ sym eb ∙ borrow.Author.Tests.not-false _ z
 
       module _ (same : same_terms (settled a) u.terms ≡ true) where
         bar_same : bar a M T ≡ bar_confirmed M (ids_in u)

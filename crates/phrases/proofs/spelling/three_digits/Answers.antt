@@ -1,0 +1,11 @@
+-- `phrases::spelling::three_digits` meets its contract. Closed by SpellLaws: the last digit, and those before it.
+use Rattle.octets.proofs.Puts.{put_as, then}
+use Rattle.phrases.proofs.SpellLaws.{fewer, longer}
+use borrow.Author.Rules.{rules}
+use Rattle.phrases.proofs.spelling.three_digits.Goals as goal
+
+pub returns-then-n-lt10 : goal.returns-then-n-lt10
+returns-then-n-lt10 c = (put_as (fewer 1 _ (search rules)) c.one_digit.ensures.0, search rules)
+
+pub returns : goal.returns
+returns c = (put_as (longer 1 _ (search rules)) (search then), search rules)
