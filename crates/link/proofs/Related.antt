@@ -104,6 +104,7 @@ module _ (xs : List Extension) {A : Log} {a : M.Log} (r : RelLog A a) where
   rel_answer : (i : ℕ) (k : Result) (f : Frame) → AllowedFrame f → Names f i → RelLog (note_line (handed_over xs (line_of (answer i k f))) A) (M.log_out (answer i k f) a)
   unfolding note_line handed_over M.log_out
   rel_answer i success (note k j n q b) al names = rel_told r (frame_octets (note k j n q b)) j (names_answer k j n q b al)
+  rel_answer i success (msg m) al n = elim n [ ]
   rel_answer i failed f al n = r
   rel_answer i uncertain f al n = r
 
@@ -133,6 +134,7 @@ answer_of : (xs : List Extension) (i : ℕ) (k : Result) (f : Frame) → Allowed
     → pick (eqb (kind_of (handed_over xs (line_of (answer i k f)))) 0x22) (answers (drop 2 (handed_over xs (line_of (answer i k f))))) [] ++ rest ≡ i ∷ rest
 unfolding handed_over
 answer_of xs i k (note j n m q b) al names rest = rw (names_answer j n m q b al)
+answer_of xs i k (msg m) al h rest = elim h [ ]
 
 sent_none : (xs : List Extension) (l : Line) → FineLine l → eqb (kind_of (handed_over xs (line_of (send l)))) 0x22 ≡ false
 unfolding handed_over
@@ -142,6 +144,7 @@ sent_none xs (dat h) (dats g) = refl
 sent_none xs fin fins = refl
 sent_none xs (fin_ok b) fin_oks = refl
 sent_none xs (cut n) cuts = refl
+sent_none xs Rattle.book.specs.Book.lost h = elim h [ ]
 
 give_none : (xs : List Extension) (t : Terms) (m : Msg) → eqb (kind_of (handed_over xs (line_of (give t m)))) 0x22 ≡ false
 unfolding handed_over
