@@ -48,6 +48,7 @@ class Names:
             old, new = place[2]
             if old:
                 self.steps.setdefault(flat(old), new)
+        self.callees = {flat(place[2][0]): place[3] for place in of["places"] if place[3]}
         self.arms = {}
         for arm in of["arms"]:
             if arm:
@@ -57,6 +58,23 @@ class Names:
         self.loops = {}
         for ((old, new), variables), changed in zip(of["loops"], of["changed"]):
             self.loops[flat(old)] = (new, variables, changed)
+
+
+# By a function's path: the names of the slices that it is lent to be changed.
+LENT, OWN = {}, {}
+
+
+def signatures():
+    for folder, _, files in os.walk("crates"):
+        for name in files:
+            if name.endswith(".rt") and "/src" in folder:
+                crate = folder.split("/")[1]
+                module = [] if name in ("lib.rt", "main.rt") else [name[:-3]]
+                with open(os.path.join(folder, name), encoding="utf-8") as f:
+                    for m in re.finditer(r"fn (\w+)(?:<[^>]*>)?\(([^)]*)\)", f.read()):
+                        path = "::".join([crate, *module, m.group(1)])
+                        LENT[path] = re.findall(r"(\w+): &mut \[", m.group(2))
+                        OWN[path] = re.findall(r"(\w+):", m.group(2))
 
 
 FIELD = r"(?:\.(?:«[^»]*»|" + WORD + r"))"
@@ -76,7 +94,12 @@ def path(head, rest, names):
     for n in range(len(fields), 1, -1):
         if (old, tuple(fields[1:n])) in names.arms:
             return ".".join([head, *names.arms[old, tuple(fields[1:n])], *fields[n:]])
-    return ".".join([head, names.steps.get(old, fields[0]), *fields[1:]])
+    if len(fields) > 2 and fields[1] == "auto" and fields[2].isdigit():
+        fields[2] = LENT[names.callees.get(old, names.path)][int(fields[2])]
+    step = names.steps.get(old, fields[0])
+    whole = ".".join([head, step, *fields[1:]])
+    # Of `if !x` the step says x itself now.
+    return f"(ap not {whole})" if step.startswith("if-not-") and fields[1:] in (["true"], ["false"]) else whole
 
 
 def walked(body, names):
@@ -96,7 +119,9 @@ def walked(body, names):
     def one(m):
         return path("c", m.group(2), names) if m.group(1) in contexts else m.group(0)
 
-    return re.sub(r"(?<![\w.«'₀-₉-])(" + NAME + r")(" + FIELD + r"*)", one, body)
+    body = re.sub(r"(?<![\w.«'₀-₉-])(" + NAME + r")(" + FIELD + r"*)", one, body)
+    # An argument that is an array had a number for its name.
+    return re.sub(r"(?<=\.)t(\d+)(?![\w-])", lambda m: names.own[int(m.group(1)) - 1], body) if names.own else body
 
 
 def invariant(params, body, variables, changed):
@@ -167,6 +192,7 @@ def main():
     crate, listed = sys.argv[1:3]
     with open(listed, encoding="utf-8") as f:
         every = json.load(f)
+    signatures()
     by_path = {}
     for module, of in every.items():
         if ".Lts" in module:
@@ -182,12 +208,19 @@ def main():
         file = os.path.join(folder, "Proof.antt")
         with open(file, encoding="utf-8") as f:
             text = f.read()
-        head, uses, answers, invariants, said = turned(text, Names(by_path[where]), where)
+        names = Names(by_path[where])
+        names.path = "::".join([crate, *where.split("/")])
+        names.own = OWN.get(names.path)
+        head, uses, answers, invariants, said = turned(text, names, where)
         module = f"Rattle.{crate}.proofs." + where.replace("/", ".")
         os.remove(file)
         for name, of, goals in (("Answers", answers, "Goals"), ("Invariants", invariants, "Given")):
             if of:
                 body = "\n\n".join(of)
+                if "(ap not " in body:
+                    uses = [*uses, "use mathlib.Core.Bool.{not}"]
+                    if not any(re.search(r"[{ ]ap[,}]", u) for u in uses):
+                        uses.append("use mathlib.Core.Path.{ap}")
                 lines = [*head, *uses, f"use {module}.{goals} as goal", "", body, ""]
                 with open(os.path.join(folder, name + ".antt"), "w", encoding="utf-8") as f:
                     f.write("\n".join(lines))

@@ -1,0 +1,7 @@
+-- `engine::lines::head_terms` meets its contract. Closed by `then` of Puts.
+use Rattle.octets.proofs.Puts.{then}
+use borrow.Author.Rules.{rules}
+use Rattle.engine.proofs.lines.head_terms.Goals as goal
+
+pub returns : goal.returns
+returns c = then (then c.put_length-head.ensures c.pair-next.ensures) c.pair.ensures

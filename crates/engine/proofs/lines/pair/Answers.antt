@@ -1,0 +1,12 @@
+-- `engine::lines::pair` meets its contract. Closed by laws of LineLaws.
+use Rattle.engine.proofs.LineLaws.{pair_put}
+use lib.ListN.{length-set}
+use borrow.Author.Rules.{rules}
+use native.Mathlib.Omega.{arith}
+use Rattle.engine.proofs.lines.pair.Goals as goal
+
+pub bounds-out-at-2 : goal.bounds-out-at-2
+bounds-out-at-2 c = simp length-set (omega arith)
+
+pub returns : goal.returns
+returns c = search pair_put

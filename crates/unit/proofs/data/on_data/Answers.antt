@@ -1,0 +1,15 @@
+-- `unit::data::on_data` meets its contract. Closed by laws of Views and DataLaws, one for each way out.
+use Rattle.book.proofs.Views.{reads_made}
+use Rattle.turn_laws.proofs.DataLaws.{heard_bad, heard_good}
+use native.Mathlib.Omega.{arith}
+use borrow.Author.Rules.{rules}
+use Rattle.unit.proofs.data.on_data.Goals as goal
+
+pub on_message-requires : goal.on_message-requires
+on_message-requires c = (c.requires.0, (c.requires.1.0, (reads_made _ _ _ c.read-reading.ensures c.in-Whole.is (λ j. omega (arith, c.shared_slice_known-1.given j)), c.requires.1.1)))
+
+pub returns-in-Faulty : goal.returns-in-Faulty
+returns-in-Faulty c = heard_bad c.args.frame.now c.read-reading.ensures c.requires.0 c.requires.1.0 c.in-Faulty.is c.fault_number-reason.ensures c.fall.ensures
+
+pub returns-in-Whole : goal.returns-in-Whole
+returns-in-Whole c = heard_good c.args.frame.now c.read-reading.ensures c.in-Whole.is c.on_message.ensures
