@@ -36,8 +36,9 @@ class Names:
     def known(self, step):
         """A step's name as the list has it: respelling may have taken it for a lemma, and an older Rattle counted where today's does not."""
         for name in (step, re.sub("-lem(?=\\d*$)", "", step), re.sub(r"\d+$", "", step), re.sub(r"(-lem)?\d+$", "", step)):
-            if name in self.steps:
-                return name
+            for it in (name, name[:1].lower() + name[1:]):
+                if it in self.steps:
+                    return it
         return step
 
     def __init__(self, of):
@@ -169,7 +170,7 @@ def turned(text, names, where):
             answers.append("\n".join(first))
             continue
         old = re.sub(r"^overflow-", "", flat(k.group(1)))
-        new = names.goals.get(flat(k.group(1))) or names.goals.get(old)
+        new = names.goals.get(flat(k.group(1))) or names.goals.get(old) or names.goals.get(flat(name))
         lines = first[1:]
         opens = []
         while lines and lines[0].startswith("unfolding "):

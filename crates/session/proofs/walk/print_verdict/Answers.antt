@@ -1,0 +1,14 @@
+-- `session::walk::print_verdict` meets its contract. Closed by WalkLaws, one law for each way out.
+use Rattle.session.proofs.WalkLaws.{verdict_size_lem, verdict_laid, verdict_refused}
+use native.Mathlib.Omega.{arith}
+use borrow.Author.Rules.{rules}
+use Rattle.session.proofs.walk.print_verdict.Goals as goal
+
+pub print_laid-requires : goal.print_laid-requires
+print_laid-requires c = let h = verdict_size_lem _ _ c.in-Done.is c.requires.0 in (omega arith, omega (arith, c.requires.1))
+
+pub returns-in-Done : goal.returns-in-Done
+returns-in-Done c = verdict_laid _ _ c.in-Done.is c.requires.0 c.print_laid.ensures
+
+pub returns-in-Refused : goal.returns-in-Refused
+returns-in-Refused c = verdict_refused _ _ c.in-Refused.is c.print_two.ensures.0 c.print_two.ensures.1

@@ -1,0 +1,9 @@
+-- `words::inputs::with_start` meets its contract. Closed by putting one word after the other.
+use Rattle.octets.proofs.Puts.{then}
+use Rattle.words.specs.Lines.{with_start}
+use borrow.Author.Rules.{rules}
+use Rattle.words.proofs.inputs.with_start.Goals as goal
+
+pub returns : goal.returns
+unfolding with_start
+returns c = (then (then (then c.say-a.ensures c.terms-b.ensures.0) c.say-c.ensures) c.rest_after.ensures.0, search rules)
