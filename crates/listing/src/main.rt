@@ -14,13 +14,18 @@ struct Progress {
     more: bool,
 }
 
+// Says on standard error what went wrong. Where that can't be written either, nothing is left to say.
+fn complain(rt: &impl Eprint, what: &str) {
+    let _ = rt.eprintln(what);
+}
+
 // Writes the first n octets to standard output, or says that it can't.
-fn write_front(out: &[u8], n: usize) -> bool
+fn write_front(rt: &(impl Print + Eprint), out: &[u8], n: usize) -> bool
     requires { n ≤ length out.now }
 {
-    let is_written = io::write_all(1, &out[..n]);
+    let is_written = rt.write_all(&out[..n]).is_ok();
     if !is_written {
-        io::write_all(2, b"listing: standard output cannot be written\n");
+        complain(rt, "listing: standard output cannot be written");
     }
     is_written
 }
@@ -137,12 +142,10 @@ fn turn(p: Progress, unit: &mut [u8; 618], block: &mut [u8], out: &mut [u8]) -> 
 {
     let s = p.session;
     let held = p.held;
-    let got = libc::read(0, &mut block[held..]);
-    if got < 0 {
-        io::write_all(2, b"listing: standard input cannot be read\n");
+    let Ok(n) = input.read(&mut block[held..]) else {
+        complain(rt, "listing: standard input cannot be read");
         return ended(s);
-    }
-    let n = io::count(got, &block[held..]);
+    };
     if n == 0 {
         end(s, unit, &block[..held], out);
         return ended(s);
@@ -170,9 +173,9 @@ fn run(unit: &mut [u8; 618], block: &mut [u8], out: &mut [u8])
     }
 }
 
-fn main() {
-    let mut block = io::large_buffer();
-    let mut out = io::large_buffer();
+fn main(rt: HostRuntime) {
+    let mut block = [0u8; 65536];
+    let mut out = [0u8; 65536];
     let mut unit = [0u8; 618];
     run(&mut unit, &mut block, &mut out);
 }

@@ -25,13 +25,18 @@ struct Told {
     more: bool,
 }
 
+// Says on standard error what went wrong. Where that can't be written either, nothing is left to say.
+fn complain(rt: &impl Eprint, what: &str) {
+    let _ = rt.eprintln(what);
+}
+
 // Writes the first n octets to standard output, or says that it can't.
-fn write_front(out: &[u8], n: usize) -> bool
+fn write_front(rt: &(impl Print + Eprint), out: &[u8], n: usize) -> bool
     requires { n ≤ length out.now }
 {
-    let is_written = io::write_all(1, &out[..n]);
+    let is_written = rt.write_all(&out[..n]).is_ok();
     if !is_written {
-        io::write_all(2, b"story: standard output cannot be written\n");
+        complain(rt, "story: standard output cannot be written");
     }
     is_written
 }
@@ -259,9 +264,9 @@ fn run(unit: &mut [u8; 618], block: &mut [u8], out: &mut [u8], said: &mut [u8])
     }
 }
 
-fn main() {
-    let mut block = io::large_buffer();
-    let mut out = io::large_buffer();
+fn main(rt: HostRuntime) {
+    let mut block = [0u8; 65536];
+    let mut out = [0u8; 65536];
     let mut said = [0u8; 4096];
     let mut unit = [0u8; 618];
     run(&mut unit, &mut block, &mut out, &mut said);
