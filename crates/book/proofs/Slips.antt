@@ -25,7 +25,7 @@ abbrev others : Terms
 others = record { class = 2; priority = 4; rer = 1 }
 
 abbrev body : Body
-body = record { maintained = true; type = none; user_data_lem = none }
+body = record { maintained = true; type = none; user_data = none }
 
 abbrev sheet : ℕ → Msg
 sheet i = sure i none none body

@@ -11,7 +11,7 @@ use Rattle.book.specs.declared.Terms.{Terms}
 pub record Body : Type 0 where
   pub maintained : Bool
   pub type : Option ℕ
-  pub user_data_lem : Option (List ℕ)
+  pub user_data : Option (List ℕ)
 
 -- A message of a user: confirmation 0, or 1 with its identifier.
 pub data Msg : Type 0 where
@@ -130,7 +130,7 @@ body_of (sure i r q b) = b
 -- "An acknowledgement frame has the received type if present and multi_shot bit, the received identifier as reference, confirmedOk, the unit's
 -- name as sender."
 unfoldable pub ack-body : Body → Body
-ack-body b = record { maintained = b.maintained; type = b.type; user_data_lem = none }
+ack-body b = record { maintained = b.maintained; type = b.type; user_data = none }
 
 unfoldable pub ack : Setup → (id : ℕ) → Body → Frame
 unfolding ack-body
@@ -139,7 +139,7 @@ ack s i b = note ok i none s.name (ack-body b)
 -- "An answer made locally has the name, the waiting identifier as reference, multi_shot single in state 1 and else maintained, and confirmedNotOk
 -- (failed) or confirmedUnknown (uncertain)."
 unfoldable pub local : Setup → (maintained : Bool) → Kind → ℕ → Frame
-local s m k i = note k i none s.name (record { maintained = m; type = none; user_data_lem = none })
+local s m k i = note k i none s.name (record { maintained = m; type = none; user_data = none })
 
 -- every identifier of `w` answered uncertain, in sending order, then `rest`
 unfoldable pub unsure : Setup → (maintained : Bool) → List ℕ → List Out → List Out

@@ -48,7 +48,7 @@ ids_in u = take u.count u.waiting
 
 -- the message of a frame; of what is none, any (a sound unit keeps none such)
 abbrev pub no_msg : Msg
-no_msg = plain none none none (record { maintained = true; type = none; user_data_lem = none })
+no_msg = plain none none none (record { maintained = true; type = none; user_data = none })
 
 abbrev pub msg_in : Reading → Msg
 msg_in (good (msg m) n) = m

@@ -15,7 +15,7 @@ needed none = 0
 needed (some n) = n
 
 abbrev pub body_in : Message → Body
-body_in m = record { maintained = m.multi_shot; type = m.message_type; user_data_lem = m.user_data }
+body_in m = record { maintained = m.multi_shot; type = m.message_type; user_data = m.user_data }
 
 -- by its confirmation: "0 unconfirmedReq, 1 confirmedReq, 2 confirmedOk, 3 confirmedNotOk, 4 confirmedUnknown"
 abbrev pub viewed_as : (confirmation : ℕ) → Message → Frame
@@ -50,7 +50,7 @@ message_with c i r q b = record {
   message_identifier = i;
   message_reference = r;
   sender = q;
-  user_data = b.user_data_lem;
+  user_data = b.user_data;
 }
 
 abbrev pub kind_number : Kind → ℕ

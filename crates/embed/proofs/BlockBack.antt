@@ -118,7 +118,7 @@ module _ (s : List ℕ) (small : (i : ℕ) → octet s i < 256) (h : Header) (n 
   unfolding block_of
   data_back =
       field_behind head r₁ 2 16 refl ∙ field_behind t₁ r₂ 4 12 (field_long _) ∙ field_behind t₂ r₃ 4 8 (field_long _)
-      ∙ field_behind t₃ r₄ 4 4 (field_long _) ∙ field_behind t₄ r₅ 4 0 (field_long _) ∙ field_front r₆ short (placed s h n e).user_data_lem
+      ∙ field_behind t₃ r₄ 4 4 (field_long _) ∙ field_behind t₄ r₅ 4 0 (field_long _) ∙ field_front r₆ short (placed s h n e).user_data
 
   further : (f : Field) (r : List ℕ) (i j : ℕ) → 4 + i ≡ j → two (field_octets f ++ r) j ≡ two r i
   further f r i j q = ap (two (field_octets f ++ r)) (sym q) ∙ two_behind (field_octets f) r 4 i (field_long f)

@@ -4,6 +4,7 @@
 
 ghost use Rattle.std.specs.Prelude.{◌≡◌, ◌≤◌, length};
 
+use std::io::{Eprint, Print, Read};
 use words::Reader;
 
 // The reader, how many characters at the front of the block are held, and whether the input goes on.
@@ -39,7 +40,7 @@ fn write_front(rt: &(impl Print + Eprint), out: &[u8], n: usize) -> bool
 }
 
 // The lines from a place of the block on, as many as have room: what they print is written, and the place is moved on.
-fn take_some(s: Reader, block: &[u8], from: usize, out: &mut [u8]) -> Took
+fn take_some(rt: &(impl Print + Eprint), s: Reader, block: &[u8], from: usize, out: &mut [u8]) -> Took
     requires { from ≤ length block.now }
     ensures { (from ≤ result.taken) × (result.taken ≤ length block.now) }
 {
@@ -47,7 +48,7 @@ fn take_some(s: Reader, block: &[u8], from: usize, out: &mut [u8]) -> Took
     let written = fed.written;
     let reader = fed.reader;
     let taken = fed.taken;
-    let is_written = write_front(out, written);
+    let is_written = write_front(rt, out, written);
     Took {
         reader: reader,
         taken: from + taken,
@@ -56,7 +57,7 @@ fn take_some(s: Reader, block: &[u8], from: usize, out: &mut [u8]) -> Took
 }
 
 // All lines of the block but an open one; fewer where the output can't be written.
-fn take_all(s: Reader, block: &[u8], out: &mut [u8]) -> Took
+fn take_all(rt: &(impl Print + Eprint), s: Reader, block: &[u8], out: &mut [u8]) -> Took
     ensures { result.taken ≤ length block.now }
 {
     let mut took = Took {
@@ -66,7 +67,7 @@ fn take_all(s: Reader, block: &[u8], out: &mut [u8]) -> Took
     };
     let mut from = 0;
     while from < block.len() {
-        let next = take_some(took.reader, block, from, out);
+        let next = take_some(rt, took.reader, block, from, out);
         if next.taken == from {
             return next;
         }
@@ -89,11 +90,11 @@ fn keep_rest(block: &mut [u8], from: usize, n: usize, out: &mut [u8])
 }
 
 // The n characters that the block holds, of which some were read just now.
-fn advance(s: Reader, block: &mut [u8], n: usize, out: &mut [u8]) -> Progress
+fn advance(rt: &(impl Print + Eprint), s: Reader, block: &mut [u8], n: usize, out: &mut [u8]) -> Progress
     requires { (n ≤ length block.old) × (length block.old ≡ length out.old) }
     ensures { result.held ≤ n }
 {
-    let took = take_all(s, &block[..n], out);
+    let took = take_all(rt, s, &block[..n], out);
     let from = took.taken;
     let reader = took.reader;
     let more = took.is_written;
@@ -106,9 +107,9 @@ fn advance(s: Reader, block: &mut [u8], n: usize, out: &mut [u8]) -> Progress
 }
 
 // The end of the input.
-fn end(s: Reader, held: &[u8], out: &mut [u8]) {
+fn end(rt: &(impl Print + Eprint), s: Reader, held: &[u8], out: &mut [u8]) {
     let n = words::finish(s, held, out);
-    write_front(out, n);
+    write_front(rt, out, n);
 }
 
 fn ended(s: Reader) -> Progress
@@ -122,7 +123,7 @@ fn ended(s: Reader) -> Progress
 }
 
 // One read. A read that fails ends the program without a further line of output, and says so.
-fn turn(p: Progress, block: &mut [u8], out: &mut [u8]) -> Progress
+fn turn(rt: &(impl Print + Eprint), input: &mut impl Read, p: Progress, block: &mut [u8], out: &mut [u8]) -> Progress
     requires { (p.held ≤ length block.old) × (length block.old ≡ length out.old) }
     ensures { result.held ≤ length block.old }
 {
@@ -133,14 +134,14 @@ fn turn(p: Progress, block: &mut [u8], out: &mut [u8]) -> Progress
         return ended(s);
     };
     if n == 0 {
-        end(s, &block[..held], out);
+        end(rt, s, &block[..held], out);
         return ended(s);
     }
-    advance(s, block, held + n, out)
+    advance(rt, s, block, held + n, out)
 }
 
 // A proved loop has to end, and nothing says that an input does: the turns are counted down from a number that no run uses up.
-fn run(block: &mut [u8], out: &mut [u8])
+fn run(rt: &(impl Print + Eprint), input: &mut impl Read, block: &mut [u8], out: &mut [u8])
     requires { length block.old ≡ length out.old }
 {
     let s = words::fresh(false);
@@ -151,7 +152,7 @@ fn run(block: &mut [u8], out: &mut [u8])
     };
     let mut turns = u64::MAX;
     while 0 < turns {
-        p = turn(p, block, out);
+        p = turn(rt, input, p, block, out);
         if !p.more {
             return;
         }
@@ -162,5 +163,6 @@ fn run(block: &mut [u8], out: &mut [u8])
 fn main(rt: HostRuntime) {
     let mut block = [0u8; 65536];
     let mut out = [0u8; 65536];
-    run(&mut block, &mut out);
+    let mut input = rt.stdin();
+    run(&rt, &mut input, &mut block, &mut out);
 }

@@ -6,20 +6,20 @@ use native.Mathlib.Numerals.{add-one}
 use native.Mathlib.Nat.{mul-one, mul-zero, zero-add}
 use mathlib.Core.List.{List, [], ◌∷◌, ◌++◌, append_assoc, append-nil}
 use mathlib.Core.Bool.{Bool, true, false, not}
-use mathlib.Core.Option.{Option, none, some}
+use mathlib.Core.Option.{none, some}
 use mathlib.Core.Path.{◌≡◌, refl, sym, ap, ◌∙◌, subst}
-use lib.ListN.{length, get_or, take, drop, length-append, length-drop}
-use lib.Seq.{take-suc, take-add, take_all, drop-cons, length-take-le}
+use lib.ListN.{length, take, drop, length-append, length-drop}
+use lib.Seq.{take-suc, take-add, drop-cons, length-take-le}
 use lib.Dec.{ltb, leb, eqb}
-use borrow.Author.Tests.{le-leb, lt-leb, le-ltb, lt-ltb, eq-eqb, ne_eqb, ltb-false, leb-true, eqb-false}
-use Rattle.octets.specs.Choice.{pick, both, either}
+use borrow.Author.Tests.{le-leb, ltb-false, leb-true, eqb-false}
+use Rattle.octets.specs.Choice.{pick, either}
 use Rattle.frame.specs.declared.Fault.{Fault}
 use Rattle.frame.specs.declared.Fault.TheVariants.{TooLong, Incomplete, BadOctet, BadLength, Lacking, LeftOver}
 use Rattle.frame.specs.declared.Field.{Field}
 use Rattle.frame.specs.declared.Field.TheVariants.{Absent, At}
 use Rattle.frame.specs.declared.Header.{Header}
 use Rattle.frame.specs.declared.Reading.{Reading}
-use Rattle.frame.specs.declared.Reading.TheVariants.{Whole, Faulty}
+use Rattle.frame.specs.declared.Reading.TheVariants.{Whole}
 use Rattle.frame.specs.declared.reader.Step.{Step}
 use Rattle.frame.specs.declared.reader.Step.TheVariants.{Got, Bad}
 use Rattle.frame.specs.declared.reader.Opening.{Opening}
@@ -31,11 +31,11 @@ use Rattle.frame.specs.Encoding.{weight, first_octet, type_octets, number_octets
 use Rattle.frame.specs.Reading.{room, bit, octet, number, opened, fixed_at, octets_at, sender_at, data_at, rest_at}
 use Rattle.frame.specs.Reading.{and_then, at_end, begin, fields_of, reading_of, extension_at, extensions_from, next_extension}
 use Rattle.frame.specs.Decoding.{held_at, one_octet, two_octets, message_at}
-use Rattle.frame.specs.Writing.{wrong_sender, wrong_data, Allowed}
+use Rattle.frame.specs.Writing.{wrong_sender, wrong_data}
 use Rattle.frame.specs.Stripping.{bare_to}
 use Rattle.frame.proofs.BareLaws.{bare-length, bare_same}
 use Rattle.frame.proofs.ReaderLaws.{extension_after}
-use Rattle.frame.proofs.WriterLaws.{Sound, allowed, encode_is, type_1, number_2, sender_33, data_514}
+use Rattle.frame.proofs.WriterLaws.{Sound, encode_is, type_1, number_2, sender_33, data_514}
 
 -- a field was taken from `at` to m: these octets
 record Took (s : List ℕ) (at m : ℕ) (e : List ℕ) : Type 0 where

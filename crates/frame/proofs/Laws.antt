@@ -2,9 +2,8 @@
 use Prim.Native.Nat.{ℕ, ◌≤◌, ◌<◌}
 use native.Mathlib.Omega.{arith}
 use mathlib.Core.List.{List, []}
-use mathlib.Core.Bool.{true, false}
-use mathlib.Core.Option.{none}
-use mathlib.Core.Path.{◌≡◌, refl, sym, ap, ◌∙◌}
+use mathlib.Core.Bool.{true}
+use mathlib.Core.Path.{◌≡◌, refl, ap, ◌∙◌}
 use lib.ListN.{length}
 use Rattle.frame.specs.declared.Header.{Header}
 use Rattle.frame.specs.declared.Reading.{Reading}
@@ -12,9 +11,9 @@ use Rattle.frame.specs.declared.Reading.TheVariants.{Whole, Faulty}
 use Rattle.frame.specs.Message.{Message, Extension}
 use Rattle.frame.specs.Encoding.{frame_of, encode, valid_extensions}
 use Rattle.frame.specs.Reading.{octet, reading_of}
-use Rattle.frame.specs.Decoding.{Decoded, valid, fault, decode, shown, message_at}
+use Rattle.frame.specs.Decoding.{valid, decode, shown, message_at}
 use Rattle.frame.specs.Writing.{Allowed}
-use Rattle.frame.specs.Stripping.{bare_to, bare, edition_one}
+use Rattle.frame.specs.Stripping.{bare}
 use Rattle.frame.proofs.WriterLaws.{sound, allowed}
 use Rattle.frame.proofs.Inversion as Inversion
 use Rattle.frame.proofs.RoundTrip as RoundTrip

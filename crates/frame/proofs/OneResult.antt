@@ -2,21 +2,19 @@
 -- it gives; the generated contract is `Reads.Post`, so this can't drift from the source.
 use Prim.Native.Nat.{ℕ}
 use native.Mathlib.Omega.{arith}
-use mathlib.Core.List.{List}
 use mathlib.Core.Path.{◌≡◌, refl, sym, ap, ◌∙◌}
 use Rattle.octets.specs.Contract.{Leaves}
 use Rattle.frame.specs.declared.OneOctet.{OneOctet}
 use Rattle.frame.specs.declared.OneOctet.TheVariants.{NoOctet, Octet}
 use Rattle.frame.specs.declared.TwoOctets.{TwoOctets}
 use Rattle.frame.specs.declared.TwoOctets.TheVariants.{NoNumber, Number}
-use Rattle.frame.specs.declared.Written.{Written}
 use Rattle.frame.specs.Decoding.{octet_in, number_in}
 use Rattle.frame.proofs.read.Reads as read
 use Rattle.frame.proofs.fault_number.Reads as fault-number
 use Rattle.frame.proofs.refusal_number.Reads as refusal-number
 use Rattle.frame.proofs.part.Reads as part
 use Rattle.frame.proofs.sender.Reads as sender
-use Rattle.frame.proofs.user_data.Reads as user_data_lem
+use Rattle.frame.proofs.user_data.Reads as user_data
 use Rattle.frame.proofs.one_octet.Reads as one_octet_lem
 use Rattle.frame.proofs.two_octets.Reads as two-octets
 use Rattle.frame.proofs.write.Reads as write
@@ -51,7 +49,7 @@ one_part κs a x y e f p q = p ∙ sym q
 pub one_sender : Leaves sender.Post (λ κs r e. r.now)
 one_sender κs a x y e f p q = p ∙ sym q
 
-pub one_user_data : Leaves user_data_lem.Post (λ κs r e. r.now)
+pub one_user_data : Leaves user_data.Post (λ κs r e. r.now)
 one_user_data κs a x y e f p q = p ∙ sym q
 
 pub one_one_octet : Leaves one_octet_lem.Post (λ κs r e. r)

@@ -1,14 +1,14 @@
 -- WHERE THE FIELDS OF A FRAME STAND: each behind the first two octets and within the frame, which has at most 1,024 octets. Closed by taking the
 -- reader's answer apart, field by field.
-use Prim.Native.Nat.{ℕ, ◌+◌, ◌*◌, ◌≤◌}
-use mathlib.Core.Path.{◌≡◌, refl, ap, sym, ◌∙◌}
+use Prim.Native.Nat.{ℕ, ◌+◌, ◌≤◌}
+use mathlib.Core.Path.{◌≡◌, refl, sym}
 use mathlib.Core.Bool.{Bool, true, false, not}
 use mathlib.Core.List.{List}
 use native.Mathlib.Omega.{arith}
-use borrow.Author.Tests.{leb-true, ltb-false, le-leb}
-use lib.Dec.{leb, ltb, eqb}
+use borrow.Author.Tests.{leb-true, ltb-false}
+use lib.Dec.{ltb, eqb}
 use lib.ListN.{length}
-use Rattle.octets.specs.Choice.{pick, both, either}
+use Rattle.octets.specs.Choice.{pick, either}
 use Rattle.frame.specs.declared.Fault.{Fault}
 use Rattle.frame.specs.declared.Fault.TheVariants.{Incomplete, BadLength, TooLong}
 use Rattle.frame.specs.declared.Field.{Field}
@@ -40,7 +40,7 @@ pub record Placed (s : List ℕ) (h : Header) : Type 0 where
   pub identifier : Stands s h.identifier
   pub reference : Stands s h.reference
   pub sender : Stands s h.sender
-  pub user_data_lem : Stands s h.user_data
+  pub user_data : Stands s h.user_data
 
 data Answer (s : List ℕ) : Reading → Type 0 where
   whole : (h : Header) (n : ℕ) → Placed s h → Answer s (Whole h n)
@@ -96,7 +96,7 @@ module _ (s : List ℕ) where
       then _ (sender_stands (bit flags 8) c h₃) (λ o d p₄ h₄.
       then _ (data_stands (bit flags 4) d h₄) (λ u e p₅ h₅.
       ends (rest_at s (bit flags 128) e) _ (λ n.
-      whole _ n (record { type = p₁; identifier = p₂; reference = p₃; sender = p₄; user_data_lem = p₅ })))))))
+      whole _ n (record { type = p₁; identifier = p₂; reference = p₃; sender = p₄; user_data = p₅ })))))))
 
   begins : (x : Opening) → Answer s (begin x (λ flags confirmation. fields_of s flags confirmation))
   begins (Open flags confirmation) = fields_stand flags confirmation

@@ -2,19 +2,17 @@
 -- `simp` with the tests.
 use Prim.Native.Nat.{ℕ, zero, suc, ◌+◌, ◌-◌, ◌*◌, ◌/◌, ◌%◌, ◌<◌, ◌≤◌}
 use native.Mathlib.Omega.{arith}
-use native.Mathlib.Nat.{add-sub_cancel_left}
-use mathlib.Core.List.{List, []}
+use mathlib.Core.List.{List}
 use mathlib.Core.Bool.{Bool, true, false, not}
 use mathlib.Core.Path.{◌≡◌, refl, sym, ap, ◌∙◌}
-use lib.ListN.{length, get_or, take, drop}
-use lib.Dec.{ltb, leb, eqb}
+use lib.ListN.{length}
+use lib.Dec.{eqb}
 use borrow.Author.Tests.{le-leb, lt-leb, le-ltb, lt-ltb, eq-eqb, ne_eqb, not-true, not-false, leb-true}
 use Rattle.octets.specs.Choice.{pick, either}
 use Rattle.frame.specs.declared.Fault.{Fault}
 use Rattle.frame.specs.declared.Fault.TheVariants.{TooLong, Incomplete, BadOctet, BadLength, Lacking, LeftOver}
 use Rattle.frame.specs.declared.Field.{Field}
 use Rattle.frame.specs.declared.Field.TheVariants.{Absent, At}
-use Rattle.frame.specs.declared.Header.{Header}
 use Rattle.frame.specs.declared.Reading.{Reading}
 use Rattle.frame.specs.declared.Reading.TheVariants.{Whole, Faulty}
 use Rattle.frame.specs.declared.reader.Step.{Step}
@@ -25,7 +23,7 @@ use Rattle.frame.specs.declared.reader.Rest.{Rest}
 use Rattle.frame.specs.declared.reader.Rest.TheVariants.{Fields, Wrong}
 use Rattle.frame.specs.Message.{lacks}
 use Rattle.frame.specs.Reading.{room, octet, number, bit, opened, fixed_at, octets_at, sender_at, data_at, extension_at}
-use Rattle.frame.specs.Reading.{extensions_from, next_extension, rest_at, fault_of, shut_of, wrong_of, fields_of, reading_of, and_then, begin, at_end}
+use Rattle.frame.specs.Reading.{extensions_from, rest_at, fault_of, shut_of, wrong_of, fields_of, reading_of}
 
 module _ (s : List ℕ) (p : Bool) (n at : ℕ) where
   pub fixed_absent : not p ≡ true → Got Absent at ≡ fixed_at s p n at

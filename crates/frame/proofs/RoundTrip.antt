@@ -1,16 +1,15 @@
 -- Reading what any edition writes gives the message back, and the number of its extension fields. Closed field by field: each field's reader,
 -- on the octets that its writer puts behind a front, answers where they stand.
-use Prim.Native.Nat.{ℕ, zero, suc, ◌+◌, ◌-◌, ◌*◌, ◌/◌, ◌%◌, ◌≤◌, ◌<◌}
+use Prim.Native.Nat.{ℕ, zero, suc, ◌+◌, ◌*◌, ◌/◌, ◌%◌, ◌≤◌, ◌<◌}
 use native.Mathlib.Omega.{arith}
 use native.Mathlib.Nat.{mul-one, mul-zero, add-zero, add-suc}
-use native.Mathlib.Numerals.{add-one}
 use mathlib.Core.List.{List, [], ◌∷◌, ◌++◌, append_assoc, append-nil}
-use mathlib.Core.Bool.{Bool, true, false, not}
+use mathlib.Core.Bool.{Bool, true, false}
 use mathlib.Core.Option.{Option, none, some}
 use mathlib.Core.Path.{◌≡◌, refl, sym, ap, ◌∙◌}
-use lib.ListN.{length, get_or, take, drop, length-append}
+use lib.ListN.{length, drop, length-append}
 use lib.Seq.{get_or-append_seam, get_or-append-add, drop-append-add, take-append_seam, take-append-add}
-use lib.Dec.{ltb, leb, eqb}
+use lib.Dec.{ltb, eqb}
 use borrow.Author.Tests.{le-leb, lt-leb, le-ltb, ne_eqb, eqb-false, ltb-true}
 use Rattle.octets.specs.Choice.{both}
 use Rattle.frame.specs.declared.Field.{Field}
@@ -19,15 +18,14 @@ use Rattle.frame.specs.declared.Header.{Header}
 use Rattle.frame.specs.declared.Reading.TheVariants.{Whole}
 use Rattle.frame.specs.declared.reader.Step.TheVariants.{Got}
 use Rattle.frame.specs.declared.reader.Opening.TheVariants.{Open}
-use Rattle.frame.specs.declared.reader.Rest.{Rest}
 use Rattle.frame.specs.declared.reader.Rest.TheVariants.{Fields}
-use Rattle.frame.specs.Message.{Message, Extension, present, lacks}
-use Rattle.frame.specs.Encoding.{weight, first_octet, type_octets, number_octets, sender_octets, data_octets, extension_octets, valid_extensions, follows, frame_of, encode}
+use Rattle.frame.specs.Message.{Message, Extension, present}
+use Rattle.frame.specs.Encoding.{weight, first_octet, type_octets, number_octets, sender_octets, data_octets, extension_octets, valid_extensions, follows, frame_of}
 use Rattle.frame.specs.Reading.{bit, octet, number, opened, fixed_at, octets_at, sender_at, data_at, extension_at, extensions_from, rest_at, fields_of, reading_of}
 use Rattle.frame.specs.Decoding.{held_at, one_octet, two_octets, message_at, valid, decode}
 use Rattle.frame.specs.Writing.{wrong_sender, wrong_data, Allowed}
 use Rattle.frame.proofs.ReaderLaws.{open_here, rest_end, rest_some, extensions_done}
-use Rattle.frame.proofs.WriterLaws.{Sound, sound, sender_range, data_range, type_1, number_2, sender_33, data_514}
+use Rattle.frame.proofs.WriterLaws.{Sound, sound, sender_range, data_range}
 
 -- where a field stands that is written at `at`
 abbrev type_field : Option ℕ → ℕ → Field

@@ -2,7 +2,7 @@
 use Prim.Native.Nat.{ℕ, ◌≤◌, ◌<◌}
 use native.Mathlib.Omega.{arith}
 use mathlib.Core.List.{List}
-use mathlib.Core.Bool.{Bool, true, false}
+use mathlib.Core.Bool.{false}
 use mathlib.Core.Path.{◌≡◌, refl, sym, ap, ◌∙◌}
 use lib.ListN.{length}
 use lib.Seq.{sets}
@@ -18,7 +18,7 @@ use Rattle.frame.specs.Reading.{octet, reading_of}
 use Rattle.frame.specs.Writing.{Wrote}
 use Rattle.frame.specs.Stripping.{bare_to, bare, strip_refusal, edition_one}
 use Rattle.frame.proofs.BareLaws.{bare-length}
-use Rattle.frame.proofs.Inversion.{Known, known}
+use Rattle.frame.proofs.Inversion.{known}
 
 module _ (s b : List ℕ) where
   pub strip_room : length b < 1024 → Wrote (strip_refusal (length b) s) (bare s) b b (Refused NoRoom)

@@ -1,5 +1,5 @@
 -- The writer: its tests, each way out, what they make sure of; what each field's writer has put, and how a frame grows field by field.
-use Prim.Native.Nat.{ℕ, zero, suc, ◌+◌, ◌*◌, ◌/◌, ◌%◌, ◌<◌, ◌≤◌}
+use Prim.Native.Nat.{ℕ, suc, ◌+◌, ◌/◌, ◌%◌, ◌<◌, ◌≤◌}
 use native.Mathlib.Omega.{arith}
 use native.Mathlib.Nat.{zero-add}
 use mathlib.Core.List.{List, [], ◌∷◌, ◌++◌, append-nil}
@@ -8,15 +8,15 @@ use mathlib.Core.Option.{Option, none, some}
 use mathlib.Core.Path.{◌≡◌, refl, sym, ap, ◌∙◌}
 use lib.ListN.{length}
 use lib.Seq.{sets}
-use lib.Dec.{ltb, leb, eqb}
+use lib.Dec.{ltb, eqb}
 use borrow.Author.Tests.{le-ltb, lt-ltb, eq-eqb, ne_eqb, ltb-false, eqb-false, not-true, not-false}
-use Rattle.octets.specs.Choice.{pick, both, either}
+use Rattle.octets.specs.Choice.{pick, either}
 use Rattle.octets.specs.Put.{Put}
 use Rattle.octets.proofs.Puts as Puts
 use Rattle.frame.specs.Message.{Message, present, lacks}
 use Rattle.frame.specs.Encoding.{weight, first_octet, type_octets, number_octets, sender_octets, data_octets, frame_of, encode}
 use Rattle.frame.specs.Decoding.{octet_in, number_in}
-use Rattle.frame.specs.Writing.{lent, message_of, wrong_sender, wrong_data, fault_in, Allowed, refusal_of, check_of, answered, left, Wrote, PutField, Room}
+use Rattle.frame.specs.Writing.{lent, message_of, wrong_sender, wrong_data, fault_in, Allowed, refusal_of, check_of, Wrote, PutField, Room}
 use Rattle.frame.specs.declared.Fault.TheVariants.{BadOctet, BadLength, Lacking}
 use Rattle.frame.specs.declared.OneOctet.{OneOctet}
 use Rattle.frame.specs.declared.OneOctet.TheVariants.{NoOctet, Octet}
@@ -25,7 +25,6 @@ use Rattle.frame.specs.declared.TwoOctets.TheVariants.{NoNumber, Number}
 use Rattle.frame.specs.declared.Parts.{Parts}
 use Rattle.frame.specs.declared.Refusal.{Refusal}
 use Rattle.frame.specs.declared.Refusal.TheVariants.{NoRoom, Faulty}
-use Rattle.frame.specs.declared.Written.{Written}
 use Rattle.frame.specs.declared.Written.TheVariants.{Octets, Refused}
 use Rattle.frame.specs.declared.writer.Check.{Check}
 use Rattle.frame.specs.declared.writer.Check.TheVariants.{Fits, Fails}

@@ -1,5 +1,5 @@
 -- What a frame says: the values where its fields stand.
-use Rattle.std.specs.Prelude.{ℕ, ◌+◌, ◌*◌, ◌-◌, List, [], ◌∷◌, Bool, true, false, length, take, drop, leb}
+use Rattle.std.specs.Prelude.{ℕ, ◌+◌, ◌*◌, List, [], ◌∷◌, take, drop}
 use Rattle.std.proofs.Math.Option.{Option, none, some}
 use Rattle.octets.specs.Choice.{pick}
 use Rattle.frame.specs.Message.{Message}

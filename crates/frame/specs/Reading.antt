@@ -8,7 +8,6 @@ use Rattle.frame.specs.declared.Fault.{Fault}
 use Rattle.frame.specs.declared.Fault.TheVariants.{TooLong, Incomplete, BadOctet, BadLength, Lacking, LeftOver}
 use Rattle.frame.specs.declared.Field.{Field}
 use Rattle.frame.specs.declared.Field.TheVariants.{Absent, At}
-use Rattle.frame.specs.declared.Header.{Header}
 use Rattle.frame.specs.declared.Reading.{Reading}
 use Rattle.frame.specs.declared.Reading.TheVariants.{Whole, Faulty}
 use Rattle.frame.specs.declared.reader.Step.{Step}

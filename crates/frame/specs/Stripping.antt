@@ -1,10 +1,9 @@
 -- The frame without extensions of a received frame, and edition 1 frames.
 -- "a frame without extensions has bit 7 clear" (01, "Events, lines and the listing").
-use Rattle.std.specs.Prelude.{ℕ, zero, suc, ◌-◌, ◌%◌, List, [], ◌∷◌, Bool, true, false, length, take, drop, leb, ltb, eqb}
+use Rattle.std.specs.Prelude.{ℕ, ◌-◌, ◌%◌, List, [], ◌∷◌, Bool, false, length, take, drop, leb, ltb, eqb}
 use Rattle.std.proofs.Math.Option.{Option, none, some}
 use Rattle.octets.specs.Choice.{pick, both}
 use Rattle.frame.specs.Reading.{octet, reading_of}
-use Rattle.frame.specs.declared.Header.{Header}
 use Rattle.frame.specs.declared.Reading.{Reading}
 use Rattle.frame.specs.declared.Reading.TheVariants.{Whole, Faulty}
 use Rattle.frame.specs.declared.Refusal.{Refusal}

@@ -3,10 +3,10 @@
 use Rattle.std.specs.Prelude.{ℕ, ◌≤◌, List, Bool, true, false, ◌≡◌, length, ltb, eqb}
 use Rattle.std.proofs.Math.Option.{Option, none, some}
 use Rattle.std.proofs.lemmas.List.Edits.{sets}
-use Rattle.octets.specs.Choice.{pick, both, either}
+use Rattle.octets.specs.Choice.{pick, either}
 use Rattle.octets.specs.Put.{Put}
 use Rattle.frame.specs.Message.{Message, present, lacks}
-use Rattle.frame.specs.Encoding.{sender_octets, data_octets, encode}
+use Rattle.frame.specs.Encoding.{sender_octets, data_octets}
 use Rattle.frame.specs.Decoding.{octet_in, number_in}
 use Rattle.frame.specs.declared.Fault.TheVariants.{BadOctet, BadLength, Lacking}
 use Rattle.frame.specs.declared.Parts.{Parts}

@@ -88,7 +88,7 @@ module _ (s : Setup) (n : Named s) where
   unfolding wrong_sender
   sender_fine = rw (ne_eqb (length s.name) 0 (λ e. omega (arith, n.some_name)), le-ltb 32 (length s.name) n.short)
 
-  note_allowed : (k : Kind) (i : ℕ) (m : Bool) (t : Option ℕ) → AllowedFrame (note k i none s.name (record { maintained = m; type = t; user_data_lem = none }))
+  note_allowed : (k : Kind) (i : ℕ) (m : Bool) (t : Option ℕ) → AllowedFrame (note k i none s.name (record { maintained = m; type = t; user_data = none }))
   unfolding frame_message fault_in lacks wrong_data
   note_allowed ok i m t = rw sender_fine
   note_allowed not_ok i m t = rw sender_fine

@@ -69,8 +69,8 @@ start_kind lost = refl
 pub is_start : {ev : List ℕ} {l : Line} → Wire ev l → eqb (kind_of ev) 0x10 ≡ M.is_start l
 is_start {ev} {l} w = ap (λ k. eqb k 0x10) w.kind ∙ start_kind l
 
-pub rel_comes : {Q : Queue} {q : M.Queue} → RelQueue Q q → start_comes Q ≡ M.start_comes_lem q
-unfolding M.start_comes_lem
+pub rel_comes : {Q : Queue} {q : M.Queue} → RelQueue Q q → start_comes Q ≡ M.start_comes q
+unfolding M.start_comes
 rel_comes q_none = refl
 rel_comes (q_also w t) = rw (is_start w, rel_comes t)
 
@@ -115,16 +115,16 @@ unfolding M.sever
 rel_sever d r true (rel_world a b o i) = rel_world a (rel_hang b) (q_also (wire-cut r) (rel_purge d o)) (rel_purge d i)
 rel_sever d r false (rel_world a b o i) = rel_world a b (rel_purge d o) (rel_purge d i)
 
-rel_far : (d : ℕ) {W : World} {w : M.World} → RelWorld W w → far_inside d W ≡ M.far_inside_lem d w
-unfolding M.far_inside_lem
+rel_far : (d : ℕ) {W : World} {w : M.World} → RelWorld W w → far_inside d W ≡ M.far_inside d w
+unfolding M.far_inside
 rel_far d (rel_world a b o i) = rel_inside d b
 
-pub rel_near : (d : ℕ) {W : World} {w : M.World} → RelWorld W w → near_inside d W ≡ M.near_inside_lem d w
-unfolding M.near_inside_lem
+pub rel_near : (d : ℕ) {W : World} {w : M.World} → RelWorld W w → near_inside d W ≡ M.near_inside d w
+unfolding M.near_inside
 rel_near d (rel_world a b o i) = rel_inside d a
 
-rel_cut : (d n : ℕ) {W : World} {w : M.World} → RelWorld W w → RelWorld (sever d (far_inside d W) W) (M.sever d n (M.far_inside_lem d w) w)
-rel_cut d n {W} {w} r = rw (rel_far d r) (rel_sever d n (M.far_inside_lem d w) r)
+rel_cut : (d n : ℕ) {W : World} {w : M.World} → RelWorld W w → RelWorld (sever d (far_inside d W) W) (M.sever d n (M.far_inside d w) w)
+rel_cut d n {W} {w} r = rw (rel_far d r) (rel_sever d n (M.far_inside d w) r)
 
 rel_carry : (xs : List Extension) (d : ℕ) {l : Line} → FineLine l → {W : World} {w : M.World} → RelWorld W w
     → RelWorld (carry d (handed_over xs (line_of (send l))) W) (M.carry (count xs) d l w)

@@ -80,8 +80,8 @@ module _ (xs : List Extension) {s : Setup} {st : State} {ev : List ℕ} {l : Lin
       (rel_act_there xs [] v.noted (M.on_line s l st) (line_known s i l st v.allowed w n) (of_near (near i w f b p q)) (near i w f b p q))
 
 -- "If both ends sent 33, each gets 14 accepted in place of the other's 33."
-pub wire-heard : (s : Setup) (st : State) {ev : List ℕ} (l : Line) → Wire ev l → Wire (as_heard (picture s st) ev) (M.as_heard_lem st l)
-unfolding M.as_heard_lem
+pub wire-heard : (s : Setup) (st : State) {ev : List ℕ} (l : Line) → Wire ev l → Wire (as_heard (picture s st) ev) (M.as_heard st l)
+unfolding M.as_heard
 wire-heard s st (start a f) v = rw v.kind v
 wire-heard s st (reply b f) v = rw v.kind v
 wire-heard s st (dat f) v = rw v.kind v
@@ -104,14 +104,14 @@ start_suits (fin_ok b) st e = tt
 start_suits (cut r) st e = tt
 start_suits lost st e = tt
 
-module _ (xs : List Extension) (d : ℕ) {s : Setup} {st : State} {ev : List ℕ} {l : Line} (v : Wire ev l) (n : Suits (M.as_heard_lem st l) st) where
+module _ (xs : List Extension) (d : ℕ) {s : Setup} {st : State} {ev : List ℕ} {l : Line} (v : Wire ev l) (n : Suits (M.as_heard st l) st) where
   rel_reach : {W : World} {w : M.World} → Near s st W w → RelWorld (reach xs d ev W) (M.reach (count xs) d l w)
   unfolding reach M.reach M.near_state
-  rel_reach {W} {w} r = rw (is_start v, rel_near d (of_near r)) (go r (M.is_start l) refl (M.near_inside_lem d w))
+  rel_reach {W} {w} r = rw (is_start v, rel_near d (of_near r)) (go r (M.is_start l) refl (M.near_inside d w))
     where
       go : {W : World} {w : M.World} → Near s st W w → (b : Bool) → b ≡ M.is_start l → (c : Bool)
           → RelWorld (pick b (hear_start xs d ev W) (pick c (hear xs (as_heard (near_unit W) ev) W) W))
-          (pick b (M.hear_start (count xs) d l w) (pick c (M.hear (count xs) (M.as_heard_lem (M.near_state w) l) w) w))
+          (pick b (M.hear_start (count xs) d l w) (pick c (M.hear (count xs) (M.as_heard (M.near_state w) l) w) w))
       go (near i y f b p q) true e c = rel_hear_start xs v (start_suits l st (sym e)) d (near i y f b p q)
       go (near i y f b p q) false e true = rel_hear xs (wire-heard s st l v) n (near i y f b p q)
       go (near i y f b p q) false e false = of_near (near i y f b p q)
@@ -287,13 +287,13 @@ module _ (xs : List Extension) (ev : List ℕ) (isSmall : (i : ℕ) → octet ev
       refused_2 z = request_none c a (reading_in (drop 4 ev)) st z
 
       asking : (m : Msg) → vet c (reading_in (drop 4 ev)) ≡ some m
-          → RelWorld (ask_with xs (asks_for ev) (M.busy st) (M.start_comes_lem q) (on_request c a (reading_in (drop 4 ev)) st) W) (M.do_near (M.request c (count xs) a (reading_in (drop 4 ev))) w)
-      asking m z = subst (λ n. RelWorld (ask_with xs (asks_for ev) (M.busy st) (M.start_comes_lem q) (on_request c a (reading_in (drop 4 ev)) st) W)
-          (M.ask_with (count xs) n (M.busy st) (M.start_comes_lem q) (on_request c a (reading_in (drop 4 ev)) st) w)) (asked_same c k m z) (rel_ask xs (asks_for ev) (M.busy st) (M.start_comes_lem q) (on_request c a (reading_in (drop 4 ev)) st) (request_known c a r s i st y) (near i y g t u v))
+          → RelWorld (ask_with xs (asks_for ev) (M.busy st) (M.start_comes q) (on_request c a (reading_in (drop 4 ev)) st) W) (M.do_near (M.request c (count xs) a (reading_in (drop 4 ev))) w)
+      asking m z = subst (λ n. RelWorld (ask_with xs (asks_for ev) (M.busy st) (M.start_comes q) (on_request c a (reading_in (drop 4 ev)) st) W)
+          (M.ask_with (count xs) n (M.busy st) (M.start_comes q) (on_request c a (reading_in (drop 4 ev)) st) w)) (asked_same c k m z) (rel_ask xs (asks_for ev) (M.busy st) (M.start_comes q) (on_request c a (reading_in (drop 4 ev)) st) (request_known c a r s i st y) (near i y g t u v))
 
       go : (o : Option Msg) → vet c (reading_in (drop 4 ev)) ≡ o
-          → Follows (ask_with xs (asks_for ev) (M.busy st) (M.start_comes_lem q) (on_request c a (reading_in (drop 4 ev)) st) W) w
-      go none z = stays (rw (refused_2 z, ask_refused xs (asks_for ev) (M.busy st) (M.start_comes_lem q) 2 W) (of_near (near i y g t u v)))
+          → Follows (ask_with xs (asks_for ev) (M.busy st) (M.start_comes q) (on_request c a (reading_in (drop 4 ev)) st) W) w
+      go none z = stays (rw (refused_2 z, ask_refused xs (asks_for ev) (M.busy st) (M.start_comes q) 2 W) (of_near (near i y g t u v)))
       go (some m) z = goes_on (M.request c (count xs) a (reading_in (drop 4 ev))) (asking m z)
 
 -- ---- 03, 04, and what is no event

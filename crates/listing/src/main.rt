@@ -4,6 +4,7 @@
 
 ghost use Rattle.std.specs.Prelude.{◌≡◌, ◌≤◌, length};
 
+use std::io::{Eprint, Print, Read};
 use session::{Fed, Phase, Session};
 
 // The session, how many characters at the front of the block are held, and whether the input goes on.
@@ -41,7 +42,7 @@ fn cut_short() -> Session {
 
 // The lines from a place of the block on, as many as have room: what they print is written, and the place is moved on. Where the output can't be
 // written, the session stops.
-fn take_some(s: Session, unit: &mut [u8; 618], block: &[u8], from: usize, out: &mut [u8]) -> Fed
+fn take_some(rt: &(impl Print + Eprint), s: Session, unit: &mut [u8; 618], block: &[u8], from: usize, out: &mut [u8]) -> Fed
     requires { from ≤ length block.now }
     ensures { (from ≤ result.taken) × (result.taken ≤ length block.now) }
 {
@@ -49,7 +50,7 @@ fn take_some(s: Session, unit: &mut [u8; 618], block: &[u8], from: usize, out: &
     let written = fed.written;
     let session = fed.session;
     let taken = fed.taken;
-    let is_written = write_front(out, written);
+    let is_written = write_front(rt, out, written);
     if is_written {
         return Fed {
             session: session,
@@ -65,7 +66,7 @@ fn take_some(s: Session, unit: &mut [u8; 618], block: &[u8], from: usize, out: &
 }
 
 // All lines of the block but an open one.
-fn take_all(s: Session, unit: &mut [u8; 618], block: &[u8], out: &mut [u8]) -> Fed
+fn take_all(rt: &(impl Print + Eprint), s: Session, unit: &mut [u8; 618], block: &[u8], out: &mut [u8]) -> Fed
     ensures { result.taken ≤ length block.now }
 {
     let mut fed = Fed {
@@ -75,7 +76,7 @@ fn take_all(s: Session, unit: &mut [u8; 618], block: &[u8], out: &mut [u8]) -> F
     };
     let mut from = 0;
     while from < block.len() {
-        let next = take_some(fed.session, unit, block, from, out);
+        let next = take_some(rt, fed.session, unit, block, from, out);
         if next.taken == from {
             return next;
         }
@@ -104,11 +105,11 @@ fn is_stopped(s: Session) -> bool {
 }
 
 // The n characters that the block holds, of which some were read just now.
-fn advance(s: Session, unit: &mut [u8; 618], block: &mut [u8], n: usize, out: &mut [u8]) -> Progress
+fn advance(rt: &(impl Print + Eprint), s: Session, unit: &mut [u8; 618], block: &mut [u8], n: usize, out: &mut [u8]) -> Progress
     requires { (n ≤ length block.old) × (length block.old ≡ length out.old) }
     ensures { result.held ≤ n }
 {
-    let fed = take_all(s, unit, &block[..n], out);
+    let fed = take_all(rt, s, unit, &block[..n], out);
     let from = fed.taken;
     let session = fed.session;
     keep_rest(block, from, n, out);
@@ -120,9 +121,9 @@ fn advance(s: Session, unit: &mut [u8; 618], block: &mut [u8], n: usize, out: &m
 }
 
 // The end of the input.
-fn end(s: Session, unit: &[u8; 618], held: &[u8], out: &mut [u8]) {
+fn end(rt: &(impl Print + Eprint), s: Session, unit: &[u8; 618], held: &[u8], out: &mut [u8]) {
     let n = session::finish(s, unit, held, out);
-    write_front(out, n);
+    write_front(rt, out, n);
 }
 
 fn ended(s: Session) -> Progress
@@ -136,7 +137,7 @@ fn ended(s: Session) -> Progress
 }
 
 // One read. A read that fails ends the program without a further line of output, and says so.
-fn turn(p: Progress, unit: &mut [u8; 618], block: &mut [u8], out: &mut [u8]) -> Progress
+fn turn(rt: &(impl Print + Eprint), input: &mut impl Read, p: Progress, unit: &mut [u8; 618], block: &mut [u8], out: &mut [u8]) -> Progress
     requires { (p.held ≤ length block.old) × (length block.old ≡ length out.old) }
     ensures { result.held ≤ length block.old }
 {
@@ -147,14 +148,14 @@ fn turn(p: Progress, unit: &mut [u8; 618], block: &mut [u8], out: &mut [u8]) -> 
         return ended(s);
     };
     if n == 0 {
-        end(s, unit, &block[..held], out);
+        end(rt, s, unit, &block[..held], out);
         return ended(s);
     }
-    advance(s, unit, block, held + n, out)
+    advance(rt, s, unit, block, held + n, out)
 }
 
 // A proved loop has to end, and nothing says that an input does: the turns are counted down from a number that no run uses up.
-fn run(unit: &mut [u8; 618], block: &mut [u8], out: &mut [u8])
+fn run(rt: &(impl Print + Eprint), input: &mut impl Read, unit: &mut [u8; 618], block: &mut [u8], out: &mut [u8])
     requires { length block.old ≡ length out.old }
 {
     let s = session::fresh();
@@ -165,7 +166,7 @@ fn run(unit: &mut [u8; 618], block: &mut [u8], out: &mut [u8])
     };
     let mut turns = u64::MAX;
     while 0 < turns {
-        p = turn(p, unit, block, out);
+        p = turn(rt, input, p, unit, block, out);
         if !p.more {
             return;
         }
@@ -177,5 +178,6 @@ fn main(rt: HostRuntime) {
     let mut block = [0u8; 65536];
     let mut out = [0u8; 65536];
     let mut unit = [0u8; 618];
-    run(&mut unit, &mut block, &mut out);
+    let mut input = rt.stdin();
+    run(&rt, &mut input, &mut unit, &mut block, &mut out);
 }

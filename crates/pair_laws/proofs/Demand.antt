@@ -7,7 +7,7 @@ use Prim.Native.Nat.{ℕ}
 use native.Mathlib.Omega.{arith}
 use Rattle.book.specs.Book.{Msg, refused, vet, on_vetted, on_shot, on_request, body_of, State, waiting_of, bar, late, Setup}
 use Rattle.book.specs.declared.Terms.{Terms}
-use Rattle.pair_laws.specs.Model.{Fields, Log, Queue, End, ask_with, asked_ids, busy, start_comes_lem, act, act_there, World, world, at, swap, Act, request, end, tick, abort, deliver, Side, near, far, do_near, do_at, run, new_end, beginning, ask_near, tick_near, blank}
+use Rattle.pair_laws.specs.Model.{Fields, Log, Queue, End, ask_with, asked_ids, busy, start_comes, act, act_there, World, world, at, swap, Act, request, end, tick, abort, deliver, Side, near, far, do_near, do_at, run, new_end, beginning, ask_near, tick_near, blank}
 use Rattle.pair_laws.specs.Statement.{Theorem}
 use Rattle.pair_laws.proofs.Inv.{Inv, rested, resting, free}
 use Rattle.pair_laws.proofs.Close.{inv_swap, demanded, good_blank}
@@ -32,9 +32,9 @@ ask_refused x new false false n w = refl
 inv_vetted : (x : Fields) (a : Terms) (o : Option Msg) {s : Setup} {u : State} {d : ℕ} {h : Bool} {f : ℕ → Log} {acc ans : List ℕ} {b : End}
     {out inn : Queue} {next : ℕ} →
     Inv (world (at s u d h f acc ans) b out inn next) →
-    Inv (ask_with x (asked_ids o) (busy u) (start_comes_lem inn) (on_vetted a o u) (world (at s u d h f acc ans) b out inn next))
+    Inv (ask_with x (asked_ids o) (busy u) (start_comes inn) (on_vetted a o u) (world (at s u d h f acc ans) b out inn next))
 unfolding asked_ids on_vetted ask_at
-inv_vetted x a none {u} {inn} i = rw (ask_refused x [] (busy u) (start_comes_lem inn) 2) i
+inv_vetted x a none {u} {inn} i = rw (ask_refused x [] (busy u) (start_comes inn) 2) i
 inv_vetted x a (some m) {u} i = rw (shot_is (body_of m).maintained a m u) (inv_ask (bar a m u) (body_of m).maintained x a m refl i)
 
 pub inv_near : (c : Act) (w : World) → Inv w → Inv (do_near c w)

@@ -6,7 +6,7 @@ use mathlib.Core.List.{List, [], ◌∷◌}
 use Prim.Native.Nat.{ℕ, zero, suc}
 use Rattle.book.specs.Book.{Body, Msg, plain, sure, Kind, Frame, msg, note, Reading, bad, good, Line, start, reply, dat, fin, fin_ok, cut, lost, Result, Out, give, answer, ended, gone, seen, send, State, idle, single, multi, ending, assoc, Setup, Outcome, refused, done, body_of, ids_of, without, local, unsure, refuse_all, with_seen, fall, quiet_fall, vet, bar, on_single, on_multi, on_shot, on_vetted, on_request, on_end, on_tick, greet, first_contact, on_start, answered-by, begun, on_reply, noted, left_waiting, on_dat, on_fin, on_fin_ok, on_abort}
 use Rattle.book.specs.declared.Terms.{Terms}
-use Rattle.pair_laws.specs.Model.{World, world, End, at, as_heard_lem, on_line}
+use Rattle.pair_laws.specs.Model.{World, world, End, at, as_heard, on_line}
 use Rattle.pair_laws.proofs.Facts.{mes, confirm, wire, dats}
 use Rattle.pair_laws.proofs.Inv.{up, down, Busy, in_single, in_multi, in_ending, in_assoc, by_peer, by_provider, last_fin, last_ok, reply_plain, reply_sure, rested, turning, closing, severed, resting, calling_single, calling_multi, stranded_single, stranded_multi, Inv, talking, dead, free, free', opening, opening', tail}
 
@@ -223,10 +223,10 @@ line-named s lost st n = abort_named s 1 st
 
 abbrev pub SuitsNext : World → Type 0
 SuitsNext (world (at s u d h f acc ans) b out [] next) = Unit {0}
-SuitsNext (world (at s u d h f acc ans) b out (l ∷ inn) next) = Suits (as_heard_lem u l.1) u
+SuitsNext (world (at s u d h f acc ans) b out (l ∷ inn) next) = Suits (as_heard u l.1) u
 
 pub suits : {w : World} → Inv w → SuitsNext w
-unfolding as_heard_lem tail dats wire ids_of
+unfolding as_heard tail dats wire ids_of
 suits (talking {qb = []} a up c e v k p q) = tt
 suits (talking {qb = []} up down c e v k p q) = tt
 suits (talking {qb = []} down down c e v k p q) = tt

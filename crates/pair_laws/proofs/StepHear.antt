@@ -5,7 +5,7 @@ use mathlib.Core.Option.{Option, some}
 use mathlib.Core.List.{List, [], ◌∷◌, ◌++◌, append-nil, append_assoc}
 use Prim.Native.Nat.{ℕ}
 use Rattle.book.specs.Book.{msg, Body, Msg, plain, sure, State, idle, single, multi, ending, assoc, Setup, ids_of, waiting_of, without, quiet_fall, on_start, first_contact, on_reply, begun, answered-by, on_dat, on_fin, on_fin_ok, on_abort, greet, result_of, single_result, noted, left_waiting, ack, ack-body}
-use Rattle.pair_laws.specs.Model.{Fields, grant, turn, Log, blank, log_handed, log_fate, log_sent, log_out, log_all, log_heard, answers, World, busy, inside, post, carry, emit, act, join, is_start, on_line, deliver_near, reach, hear, hear_start, act_there, extended, with_fields, near_inside_lem, near_state, as_heard_lem, log_read, log_given, log_okay}
+use Rattle.pair_laws.specs.Model.{Fields, grant, turn, Log, blank, log_handed, log_fate, log_sent, log_out, log_all, log_heard, answers, World, busy, inside, post, carry, emit, act, join, is_start, on_line, deliver_near, reach, hear, hear_start, act_there, extended, with_fields, near_inside, near_state, as_heard, log_read, log_given, log_okay}
 use Rattle.pair_laws.specs.Statement.{Good, ids}
 use Rattle.pair_laws.proofs.Facts.{Sent, mes, confirm, wire, log_seen, answers_seen, emit_seen, dats, dats-append, dats-post, emit-unsure, log_unsure, answers-unsure, eqb_refl, without_first, msgs, acks}
 use Rattle.pair_laws.proofs.Flow.{Flow, Rest, past_of, past_of_rest, rest_of, rest_given, rest_past_ack, flow_plain, flow_acked, flow_unacked, flow_told, flow_past_ack, flow_past_msg, flow_add_ack}
@@ -128,7 +128,7 @@ good_turned_ok i ir iq n ea eb = rw (ea, eb) (record {
 })
 
 pub inv_hear : (x : Fields) {w : World} → Inv w → Inv (deliver_near x w)
-unfolding deliver_near reach hear hear_start act_there is_start extended with_fields ack single_result noted left_waiting near_inside_lem near_state as_heard_lem inside busy on_line on_start first_contact on_reply begun answered-by on_dat on_fin on_fin_ok quiet_fall act join log_heard log_all log_out log_sent emit carry post answers waiting_of tail dats ids_of fate_of log_fate grant blank given_log log_handed on_abort greet result_of log_read log_given log_okay wire shot_of
+unfolding deliver_near reach hear hear_start act_there is_start extended with_fields ack single_result noted left_waiting near_inside near_state as_heard inside busy on_line on_start first_contact on_reply begun answered-by on_dat on_fin on_fin_ok quiet_fall act join log_heard log_all log_out log_sent emit carry post answers waiting_of tail dats ids_of fate_of log_fate grant blank given_log log_handed on_abort greet result_of log_read log_given log_okay wire shot_of
 inv_hear x (talking {qb = []} a up c e v k p q) = talking {qb = []} a up c e v k p q
 inv_hear x (talking {d = d} {qa = qa} {qb = []} up down c e v k p q) =
     simp (eqb_refl, emit-unsure, log_unsure, answers-unsure)

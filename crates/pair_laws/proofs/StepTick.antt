@@ -4,7 +4,7 @@ use mathlib.Core.Bool.{Bool, true, false}
 use mathlib.Core.Option.{none}
 use mathlib.Core.List.{[], ◌∷◌}
 use Rattle.book.specs.Book.{reply, on_tick, fall, waiting_of}
-use Rattle.pair_laws.specs.Model.{no_fields, at, World, world, act, silent, log_all, log_out, log_sent, emit, carry, post, sever, far_inside_lem, inside, hang, busy, answers, purge}
+use Rattle.pair_laws.specs.Model.{no_fields, at, World, world, act, silent, log_all, log_out, log_sent, emit, carry, post, sever, far_inside, inside, hang, busy, answers, purge}
 use Rattle.pair_laws.proofs.Facts.{dats-append, emit-unsure, log_unsure, answers-unsure, eqb_refl, purge-dats}
 use Rattle.pair_laws.proofs.Inv.{up, down, acked, unacked, in_single, in_multi, in_ending, in_assoc, by_peer, rested, turning, closing, severed, resting, calling_single, calling_multi, stranded_single, stranded_multi, Inv, talking, dead, free, free', opening, opening', tail}
 use Rattle.pair_laws.proofs.Close.{talk_flip, books_flip, severed_flip, good_severed, good_turning, good_closing, good_flip, up_waits}
@@ -16,7 +16,7 @@ unfoldable pub tick_at : (late : Bool) → World → World
 tick_at c (world (at s u d h f acc ans) b out inn next) = act no_fields [] silent (on_tick s c u) (world (at s u d h f acc ans) b out inn next)
 
 pub inv_tick : (c : Bool) {w : World} → Inv w → Inv (tick_at c w)
-unfolding tick_at on_tick fall act silent log_all log_out log_sent emit carry post sever far_inside_lem inside hang busy answers waiting_of tail purge
+unfolding tick_at on_tick fall act silent log_all log_out log_sent emit carry post sever far_inside inside hang busy answers waiting_of tail purge
 inv_tick true (talking {d = d} {qa = qa} {qb = qb} up b acked e v k p q) =
     make_talking _ k qa qb down b unacked e (asking v) (same_account p) q (dats-append d qa [] _) refl
 inv_tick false (talking {qa = qa} {qb = qb} up b c e v k p q) = make_talking _ k qa qb up b c e v (same_account p) q refl refl

@@ -4,7 +4,7 @@ use mathlib.Core.List.{[], ◌∷◌}
 use Prim.Native.Nat.{ℕ}
 use Rattle.book.specs.Book.{greet, Msg, plain, sure, State, Setup, quiet_fall, on_start, first_contact, on_reply, begun, on_dat, on_fin, on_fin_ok, on_abort}
 use Rattle.book.specs.declared.Terms.{Terms}
-use Rattle.pair_laws.specs.Model.{World, busy, inside, is_start, as_heard_lem, on_line}
+use Rattle.pair_laws.specs.Model.{World, busy, inside, is_start, as_heard, on_line}
 use Rattle.pair_laws.specs.Statement.{Accepted, accepted, answer_to_next, AlwaysTaken}
 use Rattle.pair_laws.proofs.Facts.{mes, confirm, wire, dats, eqb_refl}
 use Rattle.pair_laws.proofs.Inv.{up, down, Busy, in_single, in_multi, in_ending, in_assoc, by_peer, by_provider, last_fin, last_ok, rested, turning, closing, severed, resting, calling_single, calling_multi, stranded_single, stranded_multi, Inv, talking, dead, free, free', opening, opening', tail}
@@ -26,7 +26,7 @@ take-greet s false a e (plain i ir iq b) = accepted
 take-greet s false a e (sure i ir iq b) = accepted
 
 pub taken : {w : World} → Inv w → Accepted (answer_to_next w)
-unfolding answer_to_next is_start inside busy as_heard_lem on_line on_start first_contact on_reply begun on_dat on_fin on_fin_ok tail dats wire
+unfolding answer_to_next is_start inside busy as_heard on_line on_start first_contact on_reply begun on_dat on_fin on_fin_ok tail dats wire
 taken (talking {qb = []} a up c e v k p q) = accepted
 taken (talking {qb = []} up down c e v k p q) = rw eqb_refl accepted
 taken (talking {qb = []} down down c e v k p q) = rw eqb_refl accepted

@@ -154,11 +154,11 @@ busy (assoc T w t) = true
 unfoldable pub inside : (d : ℕ) → End → Bool
 inside d (at s u n h f acc ans) = both (busy u) (eqb n d)
 
-unfoldable pub near_inside_lem : (d : ℕ) → World → Bool
-near_inside_lem d (world a b out inn next) = inside d a
+unfoldable pub near_inside : (d : ℕ) → World → Bool
+near_inside d (world a b out inn next) = inside d a
 
-unfoldable pub far_inside_lem : (d : ℕ) → World → Bool
-far_inside_lem d (world a b out inn next) = inside d b
+unfoldable pub far_inside : (d : ℕ) → World → Bool
+far_inside d (world a b out inn next) = inside d b
 
 unfoldable pub near_state : World → State
 near_state (world (at s u d h f acc ans) b out inn next) = u
@@ -214,7 +214,7 @@ carry x d (reply a f) w = post d (extended x (reply a f)) w
 carry x d (dat f) w = post d (extended x (dat f)) w
 carry x d fin w = post d fin w
 carry x d (fin_ok a) w = post d (fin_ok a) w
-carry x d (cut r) w = sever d r (far_inside_lem d w) w
+carry x d (cut r) w = sever d r (far_inside d w) w
 carry x d lost w = w
 
 -- Of a step's output lines, 30 to 35 go to the link, in order; the others are the user's.
@@ -255,9 +255,9 @@ is_start (cut r) = false
 is_start lost = false
 
 -- a 30 travels in this direction
-unfoldable pub start_comes_lem : Queue → Bool
-start_comes_lem [] = false
-start_comes_lem (l ∷ q) = either (is_start l.1) (start_comes_lem q)
+unfoldable pub start_comes : Queue → Bool
+start_comes [] = false
+start_comes (l ∷ q) = either (is_start l.1) (start_comes q)
 
 -- A request with the rule book's outcome. In a dialogue it is an event of that dialogue. In Idle it begins one by 30, unless starts would cross:
 -- "Starts cross when an end sends 30 while a 30 travels toward it." Runs are without crossing: a request that would cross is no step of a run.
@@ -273,7 +273,7 @@ asked_ids (some m) = ids_of m
 
 unfoldable pub ask_near : (confirmed : Bool) (x : Fields) → Terms → Reading → World → World
 ask_near c x a r (world (at s u d h f acc ans) b out inn next) =
-    ask_with x (asked_ids (vet c r)) (busy u) (start_comes_lem inn) (on_request c a r u) (world (at s u d h f acc ans) b out inn next)
+    ask_with x (asked_ids (vet c r)) (busy u) (start_comes inn) (on_request c a r u) (world (at s u d h f acc ans) b out inn next)
 
 -- ---------------------------------------------------------------- 03 and 04 at the near end
 
@@ -297,18 +297,18 @@ on_line s (cut r) u = on_abort s 0 u
 on_line s lost u = on_abort s 1 u
 
 -- "If both ends sent 33, each gets 14 accepted in place of the other's 33." An end in Ending has sent 33.
-unfoldable pub as_heard_lem : State → Line → Line
-as_heard_lem u (start a f) = start a f
-as_heard_lem u (reply a f) = reply a f
-as_heard_lem u (dat f) = dat f
-as_heard_lem idle fin = fin
-as_heard_lem (single T w t) fin = fin
-as_heard_lem (multi T k t) fin = fin
-as_heard_lem (ending T w t) fin = fin_ok true
-as_heard_lem (assoc T w t) fin = fin
-as_heard_lem u (fin_ok a) = fin_ok a
-as_heard_lem u (cut r) = cut r
-as_heard_lem u lost = lost
+unfoldable pub as_heard : State → Line → Line
+as_heard u (start a f) = start a f
+as_heard u (reply a f) = reply a f
+as_heard u (dat f) = dat f
+as_heard idle fin = fin
+as_heard (single T w t) fin = fin
+as_heard (multi T k t) fin = fin
+as_heard (ending T w t) fin = fin_ok true
+as_heard (assoc T w t) fin = fin
+as_heard u (fin_ok a) = fin_ok a
+as_heard u (cut r) = cut r
+as_heard u lost = lost
 
 -- The near unit hears a line of its dialogue, which the queue no longer has.
 unfoldable pub hear : (x : Fields) → Line → World → World
@@ -325,7 +325,7 @@ hear_start x d l (world (at s u n h f acc ans) b out inn next) =
 
 -- A line of dialogue d comes to the near end: "an end that has left, by hearing or otherwise, hears no more of that dialogue".
 unfoldable pub reach : (x : Fields) (d : ℕ) → Line → World → World
-reach x d l w = pick (is_start l) (hear_start x d l w) (pick (near_inside_lem d w) (hear x (as_heard_lem (near_state w) l) w) w)
+reach x d l w = pick (is_start l) (hear_start x d l w) (pick (near_inside d w) (hear x (as_heard (near_state w) l) w) w)
 
 -- The next line toward the near end is delivered, if there is one.
 unfoldable pub deliver_near : (x : Fields) → World → World

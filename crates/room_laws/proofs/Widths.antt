@@ -30,12 +30,12 @@ line o c {os} h w = record {
 -- ---- a note made here
 
 note_short : (k : Kind) (r : ℕ) (name : List ℕ) (m : Bool) (t : Option ℕ) → length name ≤ 32 →
-    length (frame_octets (note k r none name (record { maintained = m; type = t; user_data_lem = none }))) ≤ 38
+    length (frame_octets (note k r none name (record { maintained = m; type = t; user_data = none }))) ≤ 38
 unfolding frame_octets frame_message
 note_short k r name m none h =
-    rw (encode_is (frame_message (note k r none name (record { maintained = m; type = none; user_data_lem = none }))), append-nil name) (omega arith)
+    rw (encode_is (frame_message (note k r none name (record { maintained = m; type = none; user_data = none }))), append-nil name) (omega arith)
 note_short k r name m (some t) h =
-    rw (encode_is (frame_message (note k r none name (record { maintained = m; type = some t; user_data_lem = none }))), append-nil name) (omega arith)
+    rw (encode_is (frame_message (note k r none name (record { maintained = m; type = some t; user_data = none }))), append-nil name) (omega arith)
 
 module _ (s : Setup) (named : length s.name ≤ 32) where
   pub local_short : (m : Bool) (k : Kind) (i : ℕ) → length (frame_octets (local s m k i)) ≤ 38

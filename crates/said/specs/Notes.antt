@@ -14,7 +14,7 @@ use Rattle.said.specs.declared.Say.{Say}
 abbrev pub note_frame : Note → (name : List ℕ) → Frame
 note_frame n name =
     note (kind_for n.confirmation) n.reference none name
-    (record { maintained = n.multi_shot; type = octet_in n.message_type; user_data_lem = none })
+    (record { maintained = n.multi_shot; type = octet_in n.message_type; user_data = none })
 
 unfoldable pub note_octets : Note → (name : List ℕ) → List ℕ
 note_octets n name = frame_octets (note_frame n name)

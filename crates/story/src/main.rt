@@ -4,6 +4,7 @@
 
 ghost use Rattle.std.specs.Prelude.{◌≡◌, ◌≤◌, length};
 
+use std::io::{Eprint, Print, Read};
 use session::{Phase, Session};
 use words::Reader;
 
@@ -51,17 +52,18 @@ fn is_stopped(s: Session) -> bool {
 }
 
 // The first n characters of what a session said.
-fn tell_answers(said: &[u8], n: usize, out: &mut [u8]) -> bool
+fn tell_answers(rt: &(impl Print + Eprint), said: &[u8], n: usize, out: &mut [u8]) -> bool
     requires { n ≤ length said.now }
 {
     let inner = words::fresh(true);
     let fed = words::feed(inner, &said[..n], out);
     let written = fed.written;
-    write_front(out, written)
+    write_front(rt, out, written)
 }
 
 // One line, and what the session answers. The buffers have room for what any line prints.
 fn tell(
+    rt: &(impl Print + Eprint),
     s: Session,
     unit: &mut [u8; 618],
     r: Reader,
@@ -72,11 +74,11 @@ fn tell(
     let fed = words::feed(r, line, out);
     let written = fed.written;
     let reader = fed.reader;
-    let is_written = write_front(out, written);
+    let is_written = write_front(rt, out, written);
     let answer = session::feed(s, unit, line, said);
     let n = answer.written;
     let session = answer.session;
-    let is_told = tell_answers(said, n, out);
+    let is_told = tell_answers(rt, said, n, out);
     Told {
         session: session,
         reader: reader,
@@ -102,6 +104,7 @@ fn line_end(block: &[u8], from: usize) -> usize
 
 // The line from a place of the block up to an end.
 fn tell_next(
+    rt: &(impl Print + Eprint),
     t: Told,
     unit: &mut [u8; 618],
     block: &[u8],
@@ -115,7 +118,7 @@ fn tell_next(
 {
     let s = t.session;
     let r = t.reader;
-    let next = tell(s, unit, r, &block[from..end], out, said);
+    let next = tell(rt, s, unit, r, &block[from..end], out, said);
     let session = next.session;
     let reader = next.reader;
     let more = next.more;
@@ -129,6 +132,7 @@ fn tell_next(
 
 // All lines of the block but an open one.
 fn tell_all(
+    rt: &(impl Print + Eprint),
     s: Session,
     unit: &mut [u8; 618],
     r: Reader,
@@ -150,7 +154,7 @@ fn tell_all(
         if end <= from {
             return told;
         }
-        told = tell_next(told, unit, block, from, end, out, said);
+        told = tell_next(rt, told, unit, block, from, end, out, said);
         from = end;
         if !told.more {
             return told;
@@ -170,6 +174,7 @@ fn keep_rest(block: &mut [u8], from: usize, n: usize, out: &mut [u8])
 
 // The n characters that the block holds, of which some were read just now.
 fn advance(
+    rt: &(impl Print + Eprint),
     p: Progress,
     unit: &mut [u8; 618],
     block: &mut [u8],
@@ -182,7 +187,7 @@ fn advance(
 {
     let s = p.session;
     let r = p.reader;
-    let told = tell_all(s, unit, r, &block[..n], out, said);
+    let told = tell_all(rt, s, unit, r, &block[..n], out, said);
     let from = told.taken;
     let session = told.session;
     let reader = told.reader;
@@ -197,11 +202,11 @@ fn advance(
 }
 
 // The end of the input.
-fn end(s: Session, unit: &[u8; 618], r: Reader, held: &[u8], out: &mut [u8], said: &mut [u8]) {
+fn end(rt: &(impl Print + Eprint), s: Session, unit: &[u8; 618], r: Reader, held: &[u8], out: &mut [u8], said: &mut [u8]) {
     let n = words::finish(r, held, out);
-    write_front(out, n);
+    write_front(rt, out, n);
     let m = session::finish(s, unit, held, said);
-    tell_answers(said, m, out);
+    tell_answers(rt, said, m, out);
 }
 
 fn ended(s: Session, r: Reader) -> Progress
@@ -217,6 +222,7 @@ fn ended(s: Session, r: Reader) -> Progress
 
 // One read. A read that fails ends the program without a further line of output, and says so.
 fn turn(
+    rt: &(impl Print + Eprint), input: &mut impl Read,
     p: Progress,
     unit: &mut [u8; 618],
     block: &mut [u8],
@@ -236,14 +242,14 @@ fn turn(
     }
     let n = io::count(got, &block[held..]);
     if n == 0 {
-        end(s, unit, r, &block[..held], out, said);
+        end(rt, s, unit, r, &block[..held], out, said);
         return ended(s, r);
     }
-    advance(p, unit, block, held + n, out, said)
+    advance(rt, p, unit, block, held + n, out, said)
 }
 
 // A proved loop has to end, and nothing says that an input does: the turns are counted down from a number that no run uses up.
-fn run(unit: &mut [u8; 618], block: &mut [u8], out: &mut [u8], said: &mut [u8])
+fn run(rt: &(impl Print + Eprint), input: &mut impl Read, unit: &mut [u8; 618], block: &mut [u8], out: &mut [u8], said: &mut [u8])
     requires { length block.old ≡ length out.old }
 {
     let s = session::fresh();
@@ -256,7 +262,7 @@ fn run(unit: &mut [u8; 618], block: &mut [u8], out: &mut [u8], said: &mut [u8])
     };
     let mut turns = u64::MAX;
     while 0 < turns {
-        p = turn(p, unit, block, out, said);
+        p = turn(rt, input, p, unit, block, out, said);
         if !p.more {
             return;
         }
@@ -269,5 +275,6 @@ fn main(rt: HostRuntime) {
     let mut out = [0u8; 65536];
     let mut said = [0u8; 4096];
     let mut unit = [0u8; 618];
-    run(&mut unit, &mut block, &mut out, &mut said);
+    let mut input = rt.stdin();
+    run(&rt, &mut input, &mut unit, &mut block, &mut out, &mut said);
 }

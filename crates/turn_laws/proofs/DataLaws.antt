@@ -62,7 +62,7 @@ seen_some n z h l = laid_as (seen_line n z h) l
 
 ack_fields : (a : Note) (m : Message) (name : List ℕ) → a.multi_shot ≡ m.multi_shot → octet_in a.message_type ≡ m.message_type →
     a.reference ≡ needed m.message_identifier → a.confirmation ≡ 2 →
-    note_frame a name ≡ note ok (needed m.message_identifier) none name (record { maintained = m.multi_shot; type = m.message_type; user_data_lem = none })
+    note_frame a name ≡ note ok (needed m.message_identifier) none name (record { maintained = m.multi_shot; type = m.message_type; user_data = none })
 ack_fields a m name es et er ec = rw (es, et, er, ec)
 
 pub ack-octets : (s : Setup) (f : List ℕ) (h : Header) (a : Note) → AckOf f h a →

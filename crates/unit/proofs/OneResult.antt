@@ -4,7 +4,7 @@ use mathlib.Core.Path.{sym, ◌∙◌}
 use Rattle.octets.specs.Contract.{Leaves}
 use Rattle.unit.proofs.handle.Reads as handle
 use Rattle.unit.proofs.setup.Reads as setup
-use Rattle.unit.proofs.user_data.Reads as user_data_lem
+use Rattle.unit.proofs.user_data.Reads as user_data
 
 pub one_handle : Leaves handle.Post (λ κs r e. r)
 one_handle κs a x y e f p q = p.result ∙ sym q.result
@@ -15,5 +15,5 @@ one_handle_buffer κs a x y e f p q = p.buffer ∙ sym q.buffer
 pub one_setup : Leaves setup.Post (λ κs r e. r)
 one_setup κs a x y e f p q = p ∙ sym q
 
-pub one_user_data : Leaves user_data_lem.Post (λ κs r e. r.now)
+pub one_user_data : Leaves user_data.Post (λ κs r e. r.now)
 one_user_data κs a x y e f p q = p ∙ sym q
