@@ -40,7 +40,13 @@ fn write_front(rt: &(impl Print + Eprint), out: &[u8], n: usize) -> bool
 }
 
 // The lines from a place of the block on, as many as have room: what they print is written, and the place is moved on.
-fn take_some(rt: &(impl Print + Eprint), s: Reader, block: &[u8], from: usize, out: &mut [u8]) -> Took
+fn take_some(
+    rt: &(impl Print + Eprint),
+    s: Reader,
+    block: &[u8],
+    from: usize,
+    out: &mut [u8],
+) -> Took
     requires { from ≤ length block.now }
     ensures { (from ≤ result.taken) × (result.taken ≤ length block.now) }
 {
@@ -90,7 +96,13 @@ fn keep_rest(block: &mut [u8], from: usize, n: usize, out: &mut [u8])
 }
 
 // The n characters that the block holds, of which some were read just now.
-fn advance(rt: &(impl Print + Eprint), s: Reader, block: &mut [u8], n: usize, out: &mut [u8]) -> Progress
+fn advance(
+    rt: &(impl Print + Eprint),
+    s: Reader,
+    block: &mut [u8],
+    n: usize,
+    out: &mut [u8],
+) -> Progress
     requires { (n ≤ length block.old) × (length block.old ≡ length out.old) }
     ensures { result.held ≤ n }
 {
@@ -123,7 +135,13 @@ fn ended(s: Reader) -> Progress
 }
 
 // One read. A read that fails ends the program without a further line of output, and says so.
-fn turn(rt: &(impl Print + Eprint), input: &mut impl Read, p: Progress, block: &mut [u8], out: &mut [u8]) -> Progress
+fn turn(
+    rt: &(impl Print + Eprint),
+    input: &mut impl Read,
+    p: Progress,
+    block: &mut [u8],
+    out: &mut [u8],
+) -> Progress
     requires { (p.held ≤ length block.old) × (length block.old ≡ length out.old) }
     ensures { result.held ≤ length block.old }
 {

@@ -4,8 +4,8 @@
 
 ghost use Rattle.std.specs.Prelude.{◌≡◌, ◌≤◌, length};
 
-use std::io::{Eprint, Print, Read};
 use session::{Fed, Phase, Session};
+use std::io::{Eprint, Print, Read};
 
 // The session, how many characters at the front of the block are held, and whether the input goes on.
 #[derive(Clone, Copy)]
@@ -42,7 +42,14 @@ fn cut_short() -> Session {
 
 // The lines from a place of the block on, as many as have room: what they print is written, and the place is moved on. Where the output can't be
 // written, the session stops.
-fn take_some(rt: &(impl Print + Eprint), s: Session, unit: &mut [u8; 618], block: &[u8], from: usize, out: &mut [u8]) -> Fed
+fn take_some(
+    rt: &(impl Print + Eprint),
+    s: Session,
+    unit: &mut [u8; 618],
+    block: &[u8],
+    from: usize,
+    out: &mut [u8],
+) -> Fed
     requires { from ≤ length block.now }
     ensures { (from ≤ result.taken) × (result.taken ≤ length block.now) }
 {
@@ -66,7 +73,13 @@ fn take_some(rt: &(impl Print + Eprint), s: Session, unit: &mut [u8; 618], block
 }
 
 // All lines of the block but an open one.
-fn take_all(rt: &(impl Print + Eprint), s: Session, unit: &mut [u8; 618], block: &[u8], out: &mut [u8]) -> Fed
+fn take_all(
+    rt: &(impl Print + Eprint),
+    s: Session,
+    unit: &mut [u8; 618],
+    block: &[u8],
+    out: &mut [u8],
+) -> Fed
     ensures { result.taken ≤ length block.now }
 {
     let mut fed = Fed {
@@ -105,7 +118,14 @@ fn is_stopped(s: Session) -> bool {
 }
 
 // The n characters that the block holds, of which some were read just now.
-fn advance(rt: &(impl Print + Eprint), s: Session, unit: &mut [u8; 618], block: &mut [u8], n: usize, out: &mut [u8]) -> Progress
+fn advance(
+    rt: &(impl Print + Eprint),
+    s: Session,
+    unit: &mut [u8; 618],
+    block: &mut [u8],
+    n: usize,
+    out: &mut [u8],
+) -> Progress
     requires { (n ≤ length block.old) × (length block.old ≡ length out.old) }
     ensures { result.held ≤ n }
 {
@@ -137,7 +157,14 @@ fn ended(s: Session) -> Progress
 }
 
 // One read. A read that fails ends the program without a further line of output, and says so.
-fn turn(rt: &(impl Print + Eprint), input: &mut impl Read, p: Progress, unit: &mut [u8; 618], block: &mut [u8], out: &mut [u8]) -> Progress
+fn turn(
+    rt: &(impl Print + Eprint),
+    input: &mut impl Read,
+    p: Progress,
+    unit: &mut [u8; 618],
+    block: &mut [u8],
+    out: &mut [u8],
+) -> Progress
     requires { (p.held ≤ length block.old) × (length block.old ≡ length out.old) }
     ensures { result.held ≤ length block.old }
 {
@@ -155,7 +182,13 @@ fn turn(rt: &(impl Print + Eprint), input: &mut impl Read, p: Progress, unit: &m
 }
 
 // A proved loop has to end, and nothing says that an input does: the turns are counted down from a number that no run uses up.
-fn run(rt: &(impl Print + Eprint), input: &mut impl Read, unit: &mut [u8; 618], block: &mut [u8], out: &mut [u8])
+fn run(
+    rt: &(impl Print + Eprint),
+    input: &mut impl Read,
+    unit: &mut [u8; 618],
+    block: &mut [u8],
+    out: &mut [u8],
+)
     requires { length block.old ≡ length out.old }
 {
     let s = session::fresh();

@@ -4,8 +4,8 @@
 
 ghost use Rattle.std.specs.Prelude.{◌≡◌, ◌≤◌, length};
 
-use std::io::{Eprint, Print, Read};
 use session::{Phase, Session};
+use std::io::{Eprint, Print, Read};
 use words::Reader;
 
 // The session, the reader of its input, how many characters at the front of the block are held, and whether the story goes on.
@@ -202,7 +202,15 @@ fn advance(
 }
 
 // The end of the input.
-fn end(rt: &(impl Print + Eprint), s: Session, unit: &[u8; 618], r: Reader, held: &[u8], out: &mut [u8], said: &mut [u8]) {
+fn end(
+    rt: &(impl Print + Eprint),
+    s: Session,
+    unit: &[u8; 618],
+    r: Reader,
+    held: &[u8],
+    out: &mut [u8],
+    said: &mut [u8],
+) {
     let n = words::finish(r, held, out);
     write_front(rt, out, n);
     let m = session::finish(s, unit, held, said);
@@ -222,7 +230,8 @@ fn ended(s: Session, r: Reader) -> Progress
 
 // One read. A read that fails ends the program without a further line of output, and says so.
 fn turn(
-    rt: &(impl Print + Eprint), input: &mut impl Read,
+    rt: &(impl Print + Eprint),
+    input: &mut impl Read,
     p: Progress,
     unit: &mut [u8; 618],
     block: &mut [u8],
@@ -249,7 +258,14 @@ fn turn(
 }
 
 // A proved loop has to end, and nothing says that an input does: the turns are counted down from a number that no run uses up.
-fn run(rt: &(impl Print + Eprint), input: &mut impl Read, unit: &mut [u8; 618], block: &mut [u8], out: &mut [u8], said: &mut [u8])
+fn run(
+    rt: &(impl Print + Eprint),
+    input: &mut impl Read,
+    unit: &mut [u8; 618],
+    block: &mut [u8],
+    out: &mut [u8],
+    said: &mut [u8],
+)
     requires { length block.old ≡ length out.old }
 {
     let s = session::fresh();
