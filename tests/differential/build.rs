@@ -1,4 +1,4 @@
-// Links the static libraries that `rt staticlib embed` and `rt staticlib by_value` write. Each has its own calls as its only global names, so they don't
+// Links the static libraries that `tests/build embed by_value` writes. Each has its own calls as its only global names, so they don't
 // meet.
 fn main() {
     for name in ["embed", "by_value"] {

@@ -1,4 +1,4 @@
-/* The dialogue unit, and the message frame, for C, over target/staticlib/libembed.a (`rt staticlib embed`, x86-64). Every rule is that of 01.
+/* The dialogue unit, and the message frame, for C, over target/staticlib/libembed.a (`tests/build embed`, x86-64). Every rule is that of 01.
  *
  * The caller holds the unit as an image of 618 octets. Setup writes it, each event reads and writes it; it may be copied, stored and moved, since it
  * holds no pointer. No call keeps a pointer, allocates, or fails in any other way than by the number that it answers.

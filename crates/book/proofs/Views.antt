@@ -12,16 +12,16 @@ use Rattle.frame.specs.declared.Reading.{Reading as Answer}
 use Rattle.frame.specs.declared.Reading.TheVariants.{Whole, Faulty}
 use Rattle.frame.specs.Message.{Message, Extension, present, lacks}
 use Rattle.frame.specs.Faults.{fault_number}
-use Rattle.frame.specs.Encoding.{frame_of, encode, valid_extensions}
+use Rattle.frame.specs.Encoding.{frame_of, valid_extensions}
 use Rattle.frame.specs.Reading.{octet, reading_of}
-use Rattle.frame.specs.Decoding.{Decoded, valid, fault, decode, shown, message_at, octets_or}
+use Rattle.frame.specs.Decoding.{Decoded, valid, fault, decode, message_at, octets_or}
 use Rattle.frame.specs.Writing.{Allowed}
 use Rattle.frame.specs.Stripping.{bare_to}
 use Rattle.frame.proofs.WriterLaws.{Sound}
 use Rattle.frame.proofs.Inversion.{Known, known}
 use Rattle.frame.proofs.Laws as Laws
-use Rattle.book.specs.Book.{Body, Msg, plain, sure, Kind, ok, not_ok, unknown, Frame, msg, note, Reading, bad, good}
-use Rattle.book.specs.View.{needed, body_in, viewed_as, viewed, frame_at, kind_for, heard, reading_in, message_with, kind_number, msg_message, frame_message, msg_octets, frame_octets}
+use Rattle.book.specs.Book.{Msg, plain, sure, ok, not_ok, unknown, Frame, msg, note, bad, good}
+use Rattle.book.specs.View.{needed, body_in, viewed_as, viewed, frame_at, kind_for, heard, reading_in, msg_message, frame_message, msg_octets, frame_octets}
 use Rattle.book.specs.Ready.{Reads}
 
 no_way : {A : Type 0} → true ≡ false → A

@@ -1,6 +1,6 @@
 -- An event's octets as an event, or refusal 8 (01, "Events, lines and the listing").
 -- 8: "event empty, kind unknown, body shorter than its fixed part, octets after a kind that carries no frame, result or RER out of range"
-use Rattle.std.specs.Prelude.{ℕ, List, Bool, true, false, length, get_or, ltb, leb, eqb}
+use Rattle.std.specs.Prelude.{ℕ, List, true, false, length, get_or, ltb, leb, eqb}
 use Rattle.octets.specs.Choice.{pick, both}
 use Rattle.book.specs.declared.Terms.{Terms}
 use Rattle.book.specs.declared.Event.{Event}

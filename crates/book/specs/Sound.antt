@@ -1,5 +1,5 @@
 -- When a unit is sound (01, "Refusal numbers", the paragraph "Sound").
-use Rattle.std.specs.Prelude.{ℕ, zero, suc, List, [], ◌∷◌, Bool, true, false, not, length, take, drop, get_or, ltb, leb, eqb}
+use Rattle.std.specs.Prelude.{ℕ, zero, suc, List, [], ◌∷◌, Bool, true, false, not, take, drop, get_or, ltb, leb, eqb}
 use Rattle.octets.specs.Choice.{pick, both, either}
 use Rattle.book.specs.Book.{Msg, plain, sure, msg, note, Reading, good, bad, waits}
 use Rattle.book.specs.View.{reading_in}

@@ -1,5 +1,5 @@
 -- A TURN AT THE LEVEL OF OCTETS: read the event, apply the rule book, write the lines.
-use Rattle.std.specs.Prelude.{ℕ, ◌≡◌, List, [], ◌∷◌, Bool, true, false, length, drop, replicate, ltb}
+use Rattle.std.specs.Prelude.{ℕ, ◌≡◌, List, [], ◌∷◌, length, drop, replicate, ltb}
 use Rattle.std.proofs.Math.Option.{Option, none, some}
 use Rattle.std.proofs.lemmas.List.Edits.{sets}
 use Rattle.octets.specs.Choice.{pick}
@@ -12,7 +12,6 @@ use Rattle.book.specs.Events.{event_of, frame_from}
 use Rattle.book.specs.declared.Unit.{Unit as Value}
 use Rattle.book.specs.declared.Event.{Event}
 use Rattle.book.specs.declared.Event.TheVariants.{Malformed, Transfer, End, Tick, StartAsked, StartAnswered, Data, EndAsked, EndAnswered, Aborted, Dropped}
-use Rattle.book.specs.declared.Verdict.{Verdict}
 use Rattle.book.specs.declared.Verdict.TheVariants.{Done, Refused}
 use Rattle.book.specs.declared.Turn.{Turn}
 

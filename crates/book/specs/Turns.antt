@@ -1,7 +1,7 @@
 -- Which events each state takes (01, "The five states").
 -- No contract of unit's public functions speaks of this file, only that of state::turns, which unit calls: a reader of 01 may skip it. Book refuses
 -- with 1 what a state does not take; that it refuses so what this table does not take is proved (unit, proofs/EntryLaws, RequestLaws).
-use Rattle.std.specs.Prelude.{ℕ, Bool, true, false, not, eqb, ltb}
+use Rattle.std.specs.Prelude.{ℕ, Bool, true, not, eqb, ltb}
 use Rattle.octets.specs.Choice.{pick, both, either}
 
 -- The columns: 0 a single-shot request, 1 a multi-shot one, 2 to 10 the kinds 03, 04, 10, 11, 12, 13, 14, 15, 16.

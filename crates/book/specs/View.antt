@@ -1,5 +1,5 @@
 -- Octets and the rule book's messages: what a frame's octets are read as, and the octets of a frame that is written.
-use Rattle.std.specs.Prelude.{ℕ, zero, suc, List, [], true}
+use Rattle.std.specs.Prelude.{ℕ, zero, suc, List}
 use Rattle.std.proofs.Math.Option.{Option, none, some}
 use Rattle.frame.specs.declared.Header.{Header}
 use Rattle.frame.specs.Message.{Message}

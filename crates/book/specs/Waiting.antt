@@ -1,7 +1,7 @@
 -- The waiting list in its array (01: "waiting list as a fixed array by value in the unit, one place removed and the rest closed up").
 -- No contract of unit's public functions speaks of this file, only those of state::waiting, which unit calls: a reader of 01 may skip it. Who waits
 -- is said in Book.
-use Rattle.std.specs.Prelude.{ℕ, suc, List, [], ◌∷◌, ◌++◌, Bool, take, drop, eqb, ltb}
+use Rattle.std.specs.Prelude.{ℕ, suc, List, [], ◌∷◌, ◌++◌, take, drop, eqb, ltb}
 use Rattle.octets.specs.Choice.{pick}
 use Rattle.book.specs.declared.Found.{Found}
 use Rattle.book.specs.declared.Found.TheVariants.{Place, Nowhere}

@@ -19,7 +19,7 @@ use Rattle.pair_laws.proofs.Demand.{inv_near, inv_beginning}
 use Rattle.pair_laws.proofs.Taken.{taken}
 use Rattle.pair_laws.proofs.Named.{suits}
 use Rattle.sound_laws.proofs.Within.{Within, in_idle, Limited}
-use Rattle.link.specs.Link.{Log, blank, fields_in, End, at, Queue, World, world, swap, inside, as_heard, from_user, ask_near, Side, near, far, Act, user, deliver, abort, do_near, do_at, run, new_end, beginning}
+use Rattle.link.specs.Link.{Log, blank, fields_in, at, Queue, World, swap, inside, as_heard, from_user, ask_near, Side, near, far, Act, user, deliver, abort, do_near, do_at, run, beginning}
 use Rattle.link.specs.Statement.{Good, is_taken, next_taken, Demand3, demand3, Theorem}
 use Rattle.link.proofs.Related.{RelLog, fields_of}
 use Rattle.link.proofs.Pictures.{step-picture}

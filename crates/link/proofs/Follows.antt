@@ -10,7 +10,6 @@ use Rattle.frame.specs.Message.{Extension}
 use Rattle.book.specs.Book.{plain, sure, Line, start, reply, dat, fin, fin_ok, cut, lost, Out, give, answer, ended, gone, seen, send, State, idle, single, multi, ending, assoc, Setup, Outcome, refused, done}
 use Rattle.book.specs.Lines.{line_of}
 use Rattle.book.specs.Picture.{picture}
-use Rattle.book.specs.Step.{step}
 use Rattle.pair_laws.specs.Model as M
 use Rattle.pair_laws.proofs.Named.{NamedOutcome, n_done}
 use Rattle.sound_laws.proofs.Within.{Within, Limited}

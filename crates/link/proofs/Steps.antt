@@ -26,7 +26,7 @@ use Rattle.pair_laws.proofs.Named.{Suits, SuitsNext, line-named, request_named, 
 use Rattle.sound_laws.proofs.Within.{Within, Limited, Positive, positive, both_left, both_right}
 use Rattle.sound_laws.proofs.Rules.{Keeps, keeps_request, keeps_end, keeps_tick, keeps_start, keeps_reply, keeps_dat, keeps_fin, keeps_fin_ok, keeps_abort}
 use Rattle.link.specs.Wire.{kind_of, octets}
-use Rattle.link.specs.Link.{Log, identifier, asks_for, note_nothing, Queue, End, at, World, world, busy, inside, act, act_there, fresh, start_comes, from_user, join, ask_with, ask_near, as_heard, hear, hear_start, near_unit, reach, deliver_near, break_end, warn, break_both, break_near}
+use Rattle.link.specs.Link.{Log, identifier, asks_for, note_nothing, Queue, End, at, World, world, busy, act, act_there, start_comes, from_user, ask_with, ask_near, as_heard, hear, hear_start, near_unit, reach, deliver_near, break_end, warn, break_both, break_near}
 use Rattle.link.proofs.Fine.{Heard, faulty, whole, FineOutcome, Named, named, request_fine, end_fine, tick_fine, start_fine, reply_fine, dat_fine, fin_fine, fin_ok_fine, abort_fine}
 use Rattle.link.proofs.Frames.{added, count, names_message}
 use Rattle.link.proofs.Related.{RelLog, rel_fate}

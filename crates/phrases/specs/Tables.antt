@@ -1,5 +1,5 @@
 -- The words for 01's numbers. Each table is 01's own, in its words, shortened where they are long.
-use Rattle.std.specs.Prelude.{ℕ, ◌+◌, Bool, true, false, List, ◌++◌, eqb}
+use Rattle.std.specs.Prelude.{ℕ, Bool, true, false, List, ◌++◌, eqb}
 use Rattle.octets.specs.Choice.{pick}
 use Rattle.phrases.specs.Spelling.{spelled, decimal}
 use Rattle.book.specs.declared.Terms.{Terms}

@@ -1,8 +1,7 @@
 -- Lines as the code lays them: a head with its length in front, then a body. Closed by `then` of Puts, and the length computed.
-use Prim.Native.Nat.{ℕ, zero, suc, ◌+◌, ◌-◌, ◌<◌, ◌≤◌, ◌/◌, ◌%◌}
+use Prim.Native.Nat.{ℕ, zero, suc, ◌+◌, ◌<◌, ◌≤◌, ◌/◌, ◌%◌}
 use mathlib.Core.Path.{◌≡◌, refl, ap, sym, ◌∙◌}
 use mathlib.Core.Bool.{Bool}
-use mathlib.Core.Option.{none}
 use mathlib.Core.List.{List, [], ◌∷◌, ◌++◌, append_assoc, append-nil, map, map-append}
 use native.Mathlib.Omega.{arith}
 use native.Mathlib.Numerals.{add-one}

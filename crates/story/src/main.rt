@@ -244,12 +244,10 @@ fn turn(
     let s = p.session;
     let r = p.reader;
     let held = p.held;
-    let got = libc::read(0, &mut block[held..]);
-    if got < 0 {
-        io::write_all(2, b"story: standard input cannot be read\n");
+    let Ok(n) = input.read(&mut block[held..]) else {
+        complain(rt, "story: standard input cannot be read");
         return ended(s, r);
-    }
-    let n = io::count(got, &block[held..]);
+    };
     if n == 0 {
         end(rt, s, unit, r, &block[..held], out, said);
         return ended(s, r);

@@ -1,21 +1,20 @@
 -- Laws of a line and its line feed: no line feed stands among the pairs of digits at the front, so they are the line's own. Closed by induction on
 -- the characters, two at a time, and by the count of the pairs.
 use Prim.Native.Nat.{ℕ, zero, suc, ◌+◌, ◌*◌, ◌<◌, ◌≤◌}
-use mathlib.Core.Path.{◌≡◌, refl, ap, sym, subst, ◌∙◌}
+use mathlib.Core.Path.{◌≡◌, refl, sym, subst, ◌∙◌}
 use mathlib.Core.Bool.{Bool, true, false}
 use mathlib.Core.Option.{none, some}
 use mathlib.Core.List.{List, [], ◌∷◌}
 use native.Mathlib.Omega.{arith}
-use borrow.Author.Tests.{eqb-true, eq-eqb, ne_eqb, le-leb, lt-leb, le-ltb, lt-ltb, ltb-true, leb-true}
+use borrow.Author.Tests.{eqb-true, eq-eqb, le-leb, le-ltb, lt-ltb, ltb-true, leb-true}
 use lib.Dec.{T, eqb, ltb, leb}
 use lib.ListN.{length, take, drop}
 use lib.Seq.{length-take-le}
 use Rattle.octets.specs.Choice.{pick, both}
 use Rattle.text.specs.Digits.{value_of}
 use Rattle.text.specs.Reading.{least, digits, leading, to_feed, feed_from, event_in, said, line_in}
-use Rattle.text.specs.declared.Line.{Line}
 use Rattle.text.specs.declared.Line.TheVariants.{Octets, Refused, Open}
-use Rattle.text.proofs.LineLaws.{least_first, least_second, least_under, least_within}
+use Rattle.text.proofs.LineLaws.{least_second, least_under, least_within}
 
 -- ---- a line feed is no digit
 

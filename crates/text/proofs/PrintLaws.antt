@@ -1,16 +1,15 @@
 -- Laws of a printed line: its room, its length, and the loop that writes its digits. Closed by induction on the octets.
-use Prim.Native.Nat.{ℕ, zero, suc, ◌+◌, ◌-◌, ◌*◌, ◌/◌, ◌%◌, ◌<◌, ◌≤◌}
-use mathlib.Core.Path.{◌≡◌, refl, ap, sym, ◌∙◌}
+use Prim.Native.Nat.{ℕ, suc, ◌+◌, ◌-◌, ◌*◌, ◌/◌, ◌%◌, ◌<◌, ◌≤◌}
+use mathlib.Core.Path.{◌≡◌, refl, sym}
 use mathlib.Core.Bool.{Bool, true, false}
-use mathlib.Core.List.{List, [], ◌∷◌, ◌++◌}
+use mathlib.Core.List.{List, [], ◌∷◌}
 use native.Mathlib.Numerals.{add-one}
 use native.Mathlib.Nat.{add-zero}
 use native.Mathlib.Omega.{arith}
 use borrow.Author.Tests.{le-leb, lt-leb, le-ltb, lt-ltb, leb-true, leb-false}
-use lib.Dec.{ltb, leb}
-use lib.ListN.{length, drop, get_or, set, length-append, length-set, drop_of_length-le}
+use lib.Dec.{leb}
+use lib.ListN.{length, drop, get_or, set, length-append, drop_of_length-le}
 use lib.Seq.{drop-cons, sets}
-use Rattle.octets.specs.Choice.{pick}
 use Rattle.octets.proofs.Puts.{sets-append}
 use Rattle.text.specs.Printing.{digit_of, digits_of, printed, fits, printed_in}
 

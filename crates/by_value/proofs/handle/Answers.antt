@@ -1,6 +1,5 @@
 -- `by_value::handle` meets its contract. Closed by CallLaws, one law for each way out.
 use Rattle.by_value.proofs.CallLaws.{event_short, event_none, event_answers}
-use borrow.Author.Rules.{rules}
 use Rattle.by_value.proofs.handle.Goals as goal
 
 pub returns-then-out-lt1024 : goal.returns-then-out-lt1024

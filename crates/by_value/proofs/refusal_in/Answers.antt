@@ -1,6 +1,5 @@
 -- `by_value::refusal_in` meets its contract. Closed by CallLaws, one law for each answer.
 use Rattle.by_value.proofs.CallLaws.{none_refused, refused_by}
-use borrow.Author.Rules.{rules}
 use Rattle.by_value.proofs.refusal_in.Goals as goal
 
 pub returns-in-Done : goal.returns-in-Done

@@ -1,6 +1,5 @@
 -- `by_value::settle` meets its contract. Closed by CallLaws, one law for each answer.
 use Rattle.by_value.proofs.CallLaws.{settled, left_as_was}
-use borrow.Author.Rules.{rules}
 use Rattle.by_value.proofs.settle.Goals as goal
 
 pub returns-in-Done : goal.returns-in-Done

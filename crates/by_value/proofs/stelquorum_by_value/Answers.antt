@@ -1,6 +1,5 @@
 -- `by_value::stelquorum_by_value` meets its contract. Closed by CallLaws: the verdict of `handle`, as a number.
 use Rattle.by_value.proofs.CallLaws.{numbered}
-use borrow.Author.Rules.{rules}
 use Rattle.by_value.proofs.stelquorum_by_value.Goals as goal
 
 pub returns : goal.returns

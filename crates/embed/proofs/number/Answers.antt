@@ -1,7 +1,6 @@
 -- `embed::number` meets its contract. Closed by CallLaws: what is counted has room.
 use Rattle.embed.proofs.CallLaws.{taken_fits, number_taken, number_refused}
 use native.Mathlib.Omega.{arith}
-use borrow.Author.Rules.{rules}
 use Rattle.embed.proofs.number.Goals as goal
 
 pub overflow_cast-result : goal.overflow_cast-result

@@ -1,6 +1,5 @@
 -- `embed::stelquorum_event` meets its contract. Closed by laws of CallLaws.
 use Rattle.embed.proofs.CallLaws.{handled_counts, event_answers}
-use borrow.Author.Rules.{rules}
 use native.Mathlib.Omega.{arith}
 use Rattle.embed.proofs.stelquorum_event.Goals as goal
 

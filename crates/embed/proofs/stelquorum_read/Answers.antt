@@ -2,7 +2,6 @@
 use mathlib.Core.Path.{refl}
 use Rattle.embed.proofs.CallLaws.{refusal_counts}
 use Rattle.embed.proofs.FieldsLaws.{read_short, read_fault, read_whole}
-use borrow.Author.Rules.{rules}
 use Rattle.embed.proofs.stelquorum_read.Goals as goal
 
 pub number-requires : goal.number-requires

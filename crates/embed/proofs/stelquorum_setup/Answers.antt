@@ -1,7 +1,6 @@
 -- `embed::stelquorum_setup` meets its contract. Closed by laws of CallLaws, one for each way out.
 use mathlib.Core.Path.{refl}
 use Rattle.embed.proofs.CallLaws.{refusal_counts, setup_counts, setup_no_image, setup_answers}
-use borrow.Author.Rules.{rules}
 use Rattle.embed.proofs.stelquorum_setup.Goals as goal
 
 pub number-requires : goal.number-requires

@@ -2,7 +2,6 @@
 use mathlib.Core.Path.{refl}
 use Rattle.embed.proofs.CallLaws.{refusal_counts}
 use Rattle.embed.proofs.FieldsLaws.{write_short, write_stray, write_answers, write_counts}
-use borrow.Author.Rules.{rules}
 use Rattle.embed.proofs.stelquorum_write.Goals as goal
 
 pub number-requires : goal.number-requires

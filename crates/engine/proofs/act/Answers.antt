@@ -5,7 +5,6 @@ use Rattle.engine.proofs.TurnLaws.{refused_in_place}
 use Rattle.image.specs.Image.{unit_of}
 use mathlib.Core.Path.{refl}
 use Rattle.book.specs.Step.{does}
-use borrow.Author.Rules.{rules}
 use Rattle.engine.proofs.act.Goals as goal
 
 pub returns-in-Malformed : goal.returns-in-Malformed

@@ -1,6 +1,5 @@
 -- `engine::handle` meets its contract. Closed by laws of Entry, one for each way out.
 use Rattle.engine.proofs.Entry.{ready_in, image_long, image_sound, short_buffer, unsound_image, handled}
-use borrow.Author.Rules.{rules}
 use native.Mathlib.Omega.{arith}
 use Rattle.engine.proofs.handle.Goals as goal
 

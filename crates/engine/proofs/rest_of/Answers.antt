@@ -1,6 +1,5 @@
 -- `engine::rest_of` meets its contract. Closed by laws of SetupInPlace.
 use Rattle.engine.proofs.SetupInPlace.{rest_is}
-use borrow.Author.Rules.{rules}
 use native.Mathlib.Omega.{arith}
 use Rattle.engine.proofs.rest_of.Goals as goal
 

@@ -1,7 +1,6 @@
 -- `engine::setup` meets its contract. Closed by laws of SetupInPlace, one for each way out.
 use Rattle.engine.proofs.SetupInPlace.{no_image, set_in_place, cleared_in_place}
 use mathlib.Core.Path.{refl}
-use borrow.Author.Rules.{rules}
 use Rattle.engine.proofs.setup.Goals as goal
 
 pub returns-then-image-ne618 : goal.returns-then-image-ne618

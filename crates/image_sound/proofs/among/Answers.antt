@@ -1,11 +1,8 @@
 -- `image_sound::among` meets its contract. Closed by laws of SoundLaws: what is left of the list answers as the whole.
-use Prim.Native.Nat.{◌-◌}
-use mathlib.Core.Path.{◌≡◌, refl}
-use lib.ListN.{take, drop}
+use mathlib.Core.Path.{refl}
 use Rattle.image.specs.Image.{unit_of}
 use Rattle.image.proofs.ReaderLaws.{eight_wait}
 use Rattle.image_sound.proofs.SoundLaws.{waits_stop, waits_on, waits_end}
-use Rattle.book.specs.Book.{waits}
 use borrow.Author.Rules.{rules}
 use Rattle.image_sound.proofs.among.Goals as goal
 

@@ -3,7 +3,6 @@ use Rattle.image.specs.Image.{unit_of}
 use Rattle.state.proofs.KeptLaws.{reads_bad, reads_good}
 use Rattle.book.proofs.Views.{reads_made}
 use native.Mathlib.Omega.{arith}
-use borrow.Author.Rules.{rules}
 use Rattle.image_sound.proofs.kept_reads.Goals as goal
 
 pub kept_says-requires : goal.kept_says-requires

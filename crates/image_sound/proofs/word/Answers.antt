@@ -1,6 +1,5 @@
 -- `image_sound::word` meets its contract. Closed by a law of WordLaws.
 use Rattle.image_sound.proofs.WordLaws.{word_is}
-use borrow.Author.Rules.{rules}
 use Rattle.image_sound.proofs.word.Goals as goal
 
 pub returns : goal.returns

@@ -1,6 +1,5 @@
 -- `said::ack_of` meets its contract. Closed by laws of SmallLaws, one for each way out.
 use Rattle.said.proofs.SmallLaws.{ack-made}
-use borrow.Author.Rules.{rules}
 use Rattle.said.proofs.ack_of.Goals as goal
 
 pub returns : goal.returns

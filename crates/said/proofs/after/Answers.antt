@@ -1,6 +1,5 @@
 -- `said::after` meets its contract. Closed by laws of SmallLaws, one for each way out.
 use Rattle.said.proofs.SmallLaws.{after_none, after_some}
-use borrow.Author.Rules.{rules}
 use Rattle.said.proofs.after.Goals as goal
 
 pub returns-then-event-from : goal.returns-then-event-from

@@ -1,5 +1,4 @@
 -- `said::name_of` meets its contract. Closed by `search rules`.
-use borrow.Author.Rules.{rules}
 use Rattle.said.proofs.name_of.Goals as goal
 
 pub returns : goal.returns

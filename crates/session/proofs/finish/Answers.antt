@@ -3,7 +3,6 @@ use lib.ListN.{length}
 use mathlib.Core.Path.{sym, ◌∙◌}
 use Rattle.session.specs.Feeding.{standing}
 use Rattle.session.proofs.LineLaws.{finish_full, finish_listed, finish_room}
-use borrow.Author.Rules.{rules}
 use Rattle.session.proofs.finish.Goals as goal
 
 pub returns-then-full : goal.returns-then-full

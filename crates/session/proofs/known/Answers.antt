@@ -1,6 +1,5 @@
 -- `session::known` meets its contract. Closed by what the checker says of a lent block's octets.
 use native.Mathlib.Omega.{arith}
-use borrow.Author.Rules.{rules}
 use Rattle.session.proofs.known.Goals as goal
 
 pub returns : goal.returns

@@ -2,7 +2,6 @@
 use mathlib.Core.Path.{sym}
 use Rattle.session.proofs.AnswerLaws.{takes_as}
 use Rattle.session.proofs.LineLaws.{line-octets, line_refused, line_open, left-takes}
-use borrow.Author.Rules.{rules}
 use Rattle.session.proofs.line.Goals as goal
 
 pub returns-in-Octets : goal.returns-in-Octets

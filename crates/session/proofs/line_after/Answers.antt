@@ -2,7 +2,6 @@
 use native.Mathlib.Omega.{arith}
 use Rattle.session.specs.Feeding.{standing}
 use Rattle.session.proofs.FeedLaws.{after_within, after-takes}
-use borrow.Author.Rules.{rules}
 use Rattle.session.proofs.line_after.Goals as goal
 
 pub overflow_add-result : goal.overflow_add-result

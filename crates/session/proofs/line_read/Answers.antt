@@ -1,6 +1,5 @@
 -- `session::line_read` meets its contract. Closed by LineLaws: the octets that were put are the line's.
 use Rattle.session.proofs.LineLaws.{line_reads}
-use borrow.Author.Rules.{rules}
 use Rattle.session.proofs.line_read.Goals as goal
 
 pub returns : goal.returns

@@ -1,9 +1,6 @@
 -- `session::lines` meets its contract. The invariant: the lines that are left, taken now, give the whole (FeedLaws: `Going`).
-use native.Mathlib.Omega.{arith}
-use mathlib.Core.Path.{sym, ◌∙◌}
 use Rattle.session.specs.Feeding.{standing}
-use Rattle.session.proofs.FeedLaws.{Going, going_start, going_full, going_fits, going_none, going_step, going_end}
-use borrow.Author.Rules.{rules}
+use Rattle.session.proofs.FeedLaws.{Going}
 use Rattle.session.proofs.lines.Given as goal
 
 abbrev pub invariant-loop-left : goal.invariant-loop-left

@@ -1,7 +1,6 @@
 -- `session::not_ended` meets its contract. Closed by LineLaws, one law for each way out.
 use mathlib.Core.Path.{sym, ◌∙◌}
 use Rattle.session.proofs.LineLaws.{left_over, left_later}
-use borrow.Author.Rules.{rules}
 use Rattle.session.proofs.not_ended.Goals as goal
 
 pub returns-then-longer : goal.returns-then-longer

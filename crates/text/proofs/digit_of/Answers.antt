@@ -1,5 +1,4 @@
 -- `text::digit_of` meets its contract. Closed by PrintLaws.
-use borrow.Author.Rules.{rules}
 use Rattle.text.proofs.PrintLaws.{digit_9, digit_f}
 use Rattle.text.proofs.digit_of.Goals as goal
 

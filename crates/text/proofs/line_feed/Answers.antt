@@ -1,10 +1,6 @@
 -- `text::line_feed` meets its contract. The invariant: the first line feed from here on is the first one from the start on.
-use Prim.Native.Nat.{◌-◌}
-use mathlib.Core.Path.{◌≡◌, refl, ◌∙◌, sym}
-use lib.ListN.{length}
-use native.Mathlib.Omega.{arith}
+use mathlib.Core.Path.{refl, ◌∙◌}
 use borrow.Author.Rules.{rules}
-use Rattle.text.specs.Reading.{feed_from}
 use Rattle.text.proofs.LineLaws.{feed_here, feed_on, feed_end}
 use Rattle.text.proofs.line_feed.Goals as goal
 

@@ -1,10 +1,9 @@
 -- `text::octets_in` meets its contract. The invariant: the octets of the pairs that are left give, put now, what all of them give at the start (LineLaws: `Begun`).
-use Prim.Native.Nat.{◌≤◌, ◌-◌, ◌*◌}
+use Prim.Native.Nat.{◌*◌}
 use mathlib.Core.Path.{◌≡◌, sym, ◌∙◌}
-use lib.ListN.{length}
 use native.Mathlib.Omega.{arith}
 use borrow.Author.Rules.{rules}
-use Rattle.text.proofs.LineLaws.{Pairs, pairs_as, Begun, begun_start, begun-step, begun_stop, begun_end, leading_high, leading_low}
+use Rattle.text.proofs.LineLaws.{pairs_as, begun_start, begun-step, begun_stop, begun_end, leading_high, leading_low}
 use Rattle.text.proofs.octets_in.Goals as goal
 
 pub loop-i-init : goal.loop-i-init

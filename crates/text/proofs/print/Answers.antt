@@ -1,8 +1,7 @@
 -- `text::print` meets its contract. Closed by PrintLaws: the digits and the line feed after them, or nothing.
-use mathlib.Core.Path.{◌≡◌, sym, ◌∙◌}
+use mathlib.Core.Path.{sym, ◌∙◌}
 use lib.Seq.{length-sets}
 use native.Mathlib.Omega.{arith}
-use borrow.Author.Rules.{rules}
 use Rattle.text.proofs.PrintLaws.{fits_in, print_none, print_all}
 use Rattle.text.proofs.print.Goals as goal
 

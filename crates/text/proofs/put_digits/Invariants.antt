@@ -1,13 +1,9 @@
 -- `text::put_digits` meets its contract. The invariant: the digits that are left give, put now, what all of them give at the start (PrintLaws).
 use Prim.Native.Nat.{◌≤◌, ◌<◌, ◌+◌, ◌-◌, ◌*◌}
-use mathlib.Core.Path.{◌≡◌, refl, sym, ◌∙◌}
-use lib.ListN.{length, drop, length-set}
+use mathlib.Core.Path.{◌≡◌}
+use lib.ListN.{length, drop}
 use lib.Seq.{sets}
-use native.Mathlib.Nat.{add-zero}
-use native.Mathlib.Omega.{arith}
-use borrow.Author.Rules.{rules}
 use Rattle.text.specs.Printing.{digits_of}
-use Rattle.text.proofs.PrintLaws.{digits_step, digits_end}
 use Rattle.text.proofs.put_digits.Given as goal
 
 abbrev pub invariant-loop-i : goal.invariant-loop-i

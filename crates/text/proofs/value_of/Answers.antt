@@ -1,6 +1,4 @@
 -- `text::value_of` meets its contract. Closed by LineLaws: each range of characters.
-use native.Mathlib.Omega.{arith}
-use borrow.Author.Rules.{rules}
 use Rattle.text.proofs.LineLaws.{under_0, to_9, under_a, to_f, over_f}
 use Rattle.text.proofs.value_of.Goals as goal
 

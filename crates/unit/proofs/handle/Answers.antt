@@ -4,7 +4,6 @@ use Rattle.book.specs.Step.{does}
 use Rattle.turn_laws.proofs.Gave.{refuses, turned_as}
 use Rattle.unit.proofs.EntryLaws.{takes_as, takes_dropped}
 use Rattle.turn_laws.proofs.StepLaws.{does_as, does_transfer, does_start, does_reply, does_data, does_malformed}
-use borrow.Author.Rules.{rules}
 use Rattle.unit.proofs.handle.Goals as goal
 
 pub returns-then-number-gt0 : goal.returns-then-number-gt0

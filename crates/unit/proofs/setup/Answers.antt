@@ -2,7 +2,6 @@
 use mathlib.Core.Path.{sym, ◌∙◌}
 use Rattle.turn_laws.proofs.Moved.{padded-sets}
 use Rattle.turn_laws.proofs.SetupLaws.{set_up_lem, not_set, within_name}
-use borrow.Author.Rules.{rules}
 use Rattle.unit.proofs.setup.Goals as goal
 
 pub returns-then-within_limits : goal.returns-then-within_limits

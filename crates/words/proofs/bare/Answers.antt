@@ -1,7 +1,6 @@
 -- `words::bare` meets its contract. Closed by LineLaws, one law for each way out.
 use Rattle.words.proofs.LineLaws.{takes_as, left-takes, bare-octets, bare_refused, bare_open, octets_within, refused_within}
 use native.Mathlib.Omega.{arith}
-use borrow.Author.Rules.{rules}
 use Rattle.words.proofs.bare.Goals as goal
 
 pub overflow_add-next : goal.overflow_add-next

@@ -1,7 +1,6 @@
 -- `words::finish` meets its contract. Closed by LineLaws, one law for each way out.
 use mathlib.Core.Path.{sym, ◌∙◌}
 use Rattle.words.proofs.LineLaws.{finish_full, finish_room, finish_open, finish_shut}
-use borrow.Author.Rules.{rules}
 use Rattle.words.proofs.finish.Goals as goal
 
 pub returns-then-full : goal.returns-then-full

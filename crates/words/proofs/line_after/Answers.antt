@@ -1,7 +1,6 @@
 -- `words::line_after` meets its contract. Closed by FeedLaws: the line where the input stands.
 use Rattle.words.proofs.FeedLaws.{after_within, after-takes}
 use native.Mathlib.Omega.{arith}
-use borrow.Author.Rules.{rules}
 use Rattle.words.proofs.line_after.Goals as goal
 
 pub overflow_add-result : goal.overflow_add-result

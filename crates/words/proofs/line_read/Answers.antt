@@ -1,6 +1,5 @@
 -- `words::line_read` meets its contract. Closed by LineLaws: the octets that were put are the line's.
 use Rattle.words.proofs.LineLaws.{line_reads}
-use borrow.Author.Rules.{rules}
 use Rattle.words.proofs.line_read.Goals as goal
 
 pub returns : goal.returns

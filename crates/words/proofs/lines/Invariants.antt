@@ -1,8 +1,5 @@
 -- `words::lines` meets its contract. The invariant: the lines that are left, taken now, give the whole (FeedLaws: `Going`).
-use mathlib.Core.Path.{sym, ◌∙◌}
-use Rattle.words.proofs.FeedLaws.{Going, going_start, going_full, going_fits, going_none, going_step, going_end}
-use native.Mathlib.Omega.{arith}
-use borrow.Author.Rules.{rules}
+use Rattle.words.proofs.FeedLaws.{Going}
 use Rattle.words.proofs.lines.Given as goal
 
 abbrev pub invariant-loop-left : goal.invariant-loop-left

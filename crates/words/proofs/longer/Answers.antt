@@ -1,5 +1,4 @@
 -- `words::longer` meets its contract. Closed by the test.
-use borrow.Author.Rules.{rules}
 use Rattle.words.proofs.longer.Goals as goal
 
 pub returns : goal.returns

@@ -1,7 +1,6 @@
 -- `words::not_ended` meets its contract. Closed by LineLaws, one law for each way out.
 use mathlib.Core.Path.{sym, ◌∙◌}
 use Rattle.words.proofs.LineLaws.{left_over, left_later}
-use borrow.Author.Rules.{rules}
 use Rattle.words.proofs.not_ended.Goals as goal
 
 pub returns-then-longer : goal.returns-then-longer

@@ -1,6 +1,5 @@
 -- `words::plain` meets its contract. Closed by LineLaws, one law for each way out.
 use Rattle.words.proofs.LineLaws.{takes_as, left-takes, plain_octets, plain_refused, plain_open}
-use borrow.Author.Rules.{rules}
 use Rattle.words.proofs.plain.Goals as goal
 
 pub returns-in-Octets : goal.returns-in-Octets

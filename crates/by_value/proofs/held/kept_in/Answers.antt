@@ -4,7 +4,6 @@ use lib.ListN.{drop, length-drop}
 use lib.Seq.{length-take-le}
 use Rattle.image.proofs.ImageLaws.{block_is}
 use native.Mathlib.Omega.{arith}
-use borrow.Author.Rules.{rules}
 use Rattle.by_value.proofs.held.kept_in.Goals as goal
 
 pub returns : goal.returns

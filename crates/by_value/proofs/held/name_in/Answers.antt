@@ -3,7 +3,6 @@ use mathlib.Core.Path.{refl, sym}
 use lib.Seq.{length-take-le}
 use Rattle.image.proofs.ImageLaws.{block_is}
 use native.Mathlib.Omega.{arith}
-use borrow.Author.Rules.{rules}
 use Rattle.by_value.proofs.held.name_in.Goals as goal
 
 pub slice_bounds-put-end-2 : goal.slice_bounds-put-end-2

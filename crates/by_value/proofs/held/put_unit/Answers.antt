@@ -1,5 +1,4 @@
 -- `by_value::held::put_unit` meets its contract. Closed by ImageLaws: four parts, one after the other.
-use mathlib.Core.Path.{sym}
 use Rattle.image.proofs.ImageLaws.{written}
 use borrow.Author.Rules.{rules}
 use Rattle.by_value.proofs.held.put_unit.Goals as goal

@@ -1,6 +1,5 @@
 -- `by_value::held::rest_octets` meets its contract. Closed by ImageLaws: sixteen octets.
 use Rattle.image.proofs.ImageLaws.{numbers_are, cut_low}
-use borrow.Author.Rules.{rules}
 use Rattle.by_value.proofs.held.rest_octets.Goals as goal
 
 pub returns : goal.returns

@@ -1,6 +1,5 @@
 -- `by_value::held::unit_in` meets its contract. Closed by ImageLaws: each part that was read is the unit's.
 use Rattle.image.proofs.ImageLaws.{unit_is}
-use borrow.Author.Rules.{rules}
 use Rattle.by_value.proofs.held.unit_in.Goals as goal
 
 pub returns : goal.returns

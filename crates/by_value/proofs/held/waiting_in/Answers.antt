@@ -1,6 +1,5 @@
 -- `by_value::held::waiting_in` meets its contract. Closed by ImageLaws: eight numbers.
 use Rattle.image.proofs.ImageLaws.{waiting_is}
-use borrow.Author.Rules.{rules}
 use Rattle.by_value.proofs.held.waiting_in.Goals as goal
 
 pub returns : goal.returns

@@ -1,6 +1,5 @@
 -- `by_value::held::waiting_octets` meets its contract. Closed by ImageLaws: sixteen octets.
 use Rattle.image.proofs.ImageLaws.{waiting_octets_are}
-use borrow.Author.Rules.{rules}
 use Rattle.by_value.proofs.held.waiting_octets.Goals as goal
 
 pub returns : goal.returns

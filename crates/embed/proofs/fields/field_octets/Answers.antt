@@ -1,6 +1,5 @@
 -- `embed::fields::field_octets` meets its contract. Closed by FieldsLaws, one law for each case.
 use Rattle.embed.proofs.FieldsLaws.{field_absent, field_at}
-use borrow.Author.Rules.{rules}
 use Rattle.embed.proofs.fields.field_octets.Goals as goal
 
 pub returns-in-Absent : goal.returns-in-Absent

@@ -1,5 +1,4 @@
 -- `embed::fields::number_where` meets its contract. Closed by the test that was taken.
-use borrow.Author.Rules.{rules}
 use Rattle.embed.proofs.fields.number_where.Goals as goal
 
 pub returns-then-present : goal.returns-then-present

@@ -1,5 +1,4 @@
 -- `embed::fields::octet_where` meets its contract. Closed by the test that was taken.
-use borrow.Author.Rules.{rules}
 use Rattle.embed.proofs.fields.octet_where.Goals as goal
 
 pub returns-then-present : goal.returns-then-present

@@ -1,6 +1,5 @@
 -- `embed::fields::parts_in` meets its contract. Closed by FieldsLaws.
 use Rattle.embed.proofs.FieldsLaws.{parts_are}
-use borrow.Author.Rules.{rules}
 use Rattle.embed.proofs.fields.parts_in.Goals as goal
 
 pub returns : goal.returns

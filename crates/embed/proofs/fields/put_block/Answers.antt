@@ -1,6 +1,5 @@
 -- `embed::fields::put_block` meets its contract. Closed by FieldsLaws: seven parts, one after the other.
 use Rattle.embed.proofs.FieldsLaws.{block_put}
-use borrow.Author.Rules.{rules}
 use Rattle.embed.proofs.fields.put_block.Goals as goal
 
 pub returns : goal.returns

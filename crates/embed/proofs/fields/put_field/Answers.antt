@@ -1,6 +1,5 @@
 -- `embed::fields::put_field` meets its contract. Closed by what its two callees ensure.
 use Rattle.embed.proofs.FieldsLaws.{field_put}
-use borrow.Author.Rules.{rules}
 use Rattle.embed.proofs.fields.put_field.Goals as goal
 
 pub returns : goal.returns

@@ -1,6 +1,5 @@
 -- `embed::fields::verdict_of` meets its contract. Closed by FieldsLaws, one law for each case.
 use Rattle.embed.proofs.FieldsLaws.{written_octets, written_none}
-use borrow.Author.Rules.{rules}
 use Rattle.embed.proofs.fields.verdict_of.Goals as goal
 
 pub returns-in-Octets : goal.returns-in-Octets

@@ -4,7 +4,6 @@ use Rattle.engine.proofs.TurnLaws.{refused_in_place, talking, data_refused}
 use Rattle.book.proofs.Views.{reads_made}
 use mathlib.Core.Path.{refl}
 use native.Mathlib.Omega.{arith}
-use borrow.Author.Rules.{rules}
 use Rattle.engine.proofs.data.on_data.Goals as goal
 
 pub returns-then-state-lt3 : goal.returns-then-state-lt3

@@ -1,6 +1,5 @@
 -- `engine::data::on_message` meets its contract. Closed by `search rules`.
 use native.Mathlib.Omega.{arith}
-use borrow.Author.Rules.{rules}
 use Rattle.engine.proofs.data.on_message.Goals as goal
 
 pub on_note-requires : goal.on_note-requires

@@ -2,7 +2,6 @@
 use Rattle.image.specs.Image.{unit_of}
 use Rattle.turn_laws.proofs.DataLaws.{heard_plain}
 use Rattle.engine.proofs.TurnLaws.{as_turn, terms_as}
-use borrow.Author.Rules.{rules}
 use Rattle.engine.proofs.data.on_plain.Goals as goal
 
 pub returns : goal.returns

@@ -5,7 +5,6 @@ use Rattle.engine.proofs.TurnLaws.{as_turn, terms_as, name_as}
 use mathlib.Core.Path.{sym, ◌∙◌}
 use mathlib.Core.List.{[], ◌∷◌}
 use native.Mathlib.Omega.{arith}
-use borrow.Author.Rules.{rules}
 use Rattle.engine.proofs.data.on_sure.Goals as goal
 
 pub name-requires : goal.name-requires

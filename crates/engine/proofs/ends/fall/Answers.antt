@@ -2,7 +2,6 @@
 use Rattle.turn_laws.proofs.EndLaws.{fell}
 use Rattle.engine.proofs.TurnLaws.{as_turn}
 use native.Mathlib.Omega.{arith}
-use borrow.Author.Rules.{rules}
 use Rattle.engine.proofs.ends.fall.Goals as goal
 
 pub put_lost-done-requires : goal.put_lost-done-requires

@@ -3,7 +3,6 @@ use Rattle.turn_laws.proofs.EndLaws.{aborted}
 use Rattle.engine.proofs.TurnLaws.{as_turn, refused_in_place, busy, abort_refused}
 use mathlib.Core.Path.{refl}
 use native.Mathlib.Omega.{arith}
-use borrow.Author.Rules.{rules}
 use Rattle.engine.proofs.ends.on_abort.Goals as goal
 
 pub returns-then-state-eq0 : goal.returns-then-state-eq0

@@ -3,7 +3,6 @@ use Rattle.turn_laws.proofs.EndLaws.{asked_end}
 use Rattle.engine.proofs.TurnLaws.{as_turn, refused_in_place, in_4, end_refused}
 use mathlib.Core.Path.{refl}
 use Rattle.book.specs.Turns.{takes}
-use borrow.Author.Rules.{rules}
 use Rattle.engine.proofs.ends.on_end.Goals as goal
 
 pub returns-then-state-ne4 : goal.returns-then-state-ne4

@@ -4,7 +4,6 @@ use Rattle.engine.proofs.TurnLaws.{as_turn, refused_in_place, in_3, answer_refus
 use mathlib.Core.Path.{refl}
 use Rattle.book.specs.Turns.{takes}
 use native.Mathlib.Omega.{arith}
-use borrow.Author.Rules.{rules}
 use Rattle.engine.proofs.ends.on_end_answered.Goals as goal
 
 pub returns-then-state-ne3 : goal.returns-then-state-ne3

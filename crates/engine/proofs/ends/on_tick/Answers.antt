@@ -3,7 +3,6 @@ use Rattle.engine.proofs.TurnLaws.{tick_moved, as_turn}
 use Rattle.turn_laws.proofs.EndLaws.{ticked_idle, ticked_early, ticked_end, ticked_fall}
 use mathlib.Core.Path.{sym, ◌∙◌}
 use native.Mathlib.Omega.{arith}
-use borrow.Author.Rules.{rules}
 use Rattle.engine.proofs.ends.on_tick.Goals as goal
 
 pub returns-then-s-eq0 : goal.returns-then-s-eq0

@@ -1,6 +1,5 @@
 -- `engine::ends::put_lost` meets its contract. Closed by laws of EndLaws.
 use Rattle.turn_laws.proofs.EndLaws.{lost_put}
-use borrow.Author.Rules.{rules}
 use Rattle.engine.proofs.ends.put_lost.Goals as goal
 
 pub returns : goal.returns

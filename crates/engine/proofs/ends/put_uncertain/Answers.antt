@@ -1,7 +1,6 @@
 -- `engine::ends::put_uncertain` meets its contract. Closed by laws of TurnLaws.
 use Rattle.engine.proofs.TurnLaws.{doubts_in}
 use native.Mathlib.Omega.{arith}
-use borrow.Author.Rules.{rules}
 use Rattle.engine.proofs.ends.put_uncertain.Goals as goal
 
 pub returns : goal.returns

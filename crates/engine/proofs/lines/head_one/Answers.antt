@@ -1,6 +1,5 @@
 -- `engine::lines::head_one` meets its contract. Closed by `then` of Puts.
 use Rattle.octets.proofs.Puts.{then}
-use borrow.Author.Rules.{rules}
 use Rattle.engine.proofs.lines.head_one.Goals as goal
 
 pub returns : goal.returns

@@ -1,6 +1,5 @@
 -- `engine::lines::head_terms` meets its contract. Closed by `then` of Puts.
 use Rattle.octets.proofs.Puts.{then}
-use borrow.Author.Rules.{rules}
 use Rattle.engine.proofs.lines.head_terms.Goals as goal
 
 pub returns : goal.returns

@@ -1,6 +1,5 @@
 -- `engine::lines::one` meets its contract. Closed by laws of LineLaws.
 use Rattle.engine.proofs.LineLaws.{one_put}
-use borrow.Author.Rules.{rules}
 use Rattle.engine.proofs.lines.one.Goals as goal
 
 pub returns : goal.returns

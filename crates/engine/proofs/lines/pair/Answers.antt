@@ -1,7 +1,6 @@
 -- `engine::lines::pair` meets its contract. Closed by laws of LineLaws.
 use Rattle.engine.proofs.LineLaws.{pair_put}
 use lib.ListN.{length-set}
-use borrow.Author.Rules.{rules}
 use native.Mathlib.Omega.{arith}
 use Rattle.engine.proofs.lines.pair.Goals as goal
 

@@ -1,10 +1,8 @@
 -- `engine::lines::put_answers` meets its contract. Closed by laws of PenLaws and ReaderLaws.
 use mathlib.Core.List.{[], ◌∷◌, ◌++◌, map}
 use Rattle.said.proofs.PenLaws.{laid_none, laid_as, and_then, answers-more}
-use Prim.Native.Nat.{◌≤◌, ◌-◌, ◌+◌, ◌*◌}
 use mathlib.Core.Path.{◌≡◌, refl, ap, ◌∙◌}
-use lib.ListN.{length, take}
-use Rattle.said.specs.Pens.{Laid}
+use lib.ListN.{take}
 use Rattle.said.specs.Notes.{answer_line}
 use Rattle.image.specs.Image.{unit_of}
 use Rattle.image.proofs.ReaderLaws.{eight_wait}

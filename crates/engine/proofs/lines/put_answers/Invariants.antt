@@ -1,15 +1,11 @@
 -- `engine::lines::put_answers` meets its contract. Closed by laws of PenLaws and ReaderLaws.
-use mathlib.Core.List.{[], ◌∷◌, ◌++◌, map}
-use Rattle.said.proofs.PenLaws.{laid_none, laid_as, and_then, answers-more}
+use mathlib.Core.List.{map}
 use Prim.Native.Nat.{◌≤◌, ◌-◌, ◌+◌, ◌*◌}
-use mathlib.Core.Path.{◌≡◌, refl, ap, ◌∙◌}
+use mathlib.Core.Path.{◌≡◌}
 use lib.ListN.{length, take}
 use Rattle.said.specs.Pens.{Laid}
 use Rattle.said.specs.Notes.{answer_line}
 use Rattle.image.specs.Image.{unit_of}
-use Rattle.image.proofs.ReaderLaws.{eight_wait}
-use native.Mathlib.Omega.{arith}
-use borrow.Author.Rules.{rules}
 use Rattle.engine.proofs.lines.put_answers.Given as goal
 
 abbrev pub invariant-loop-i : goal.invariant-loop-i

@@ -1,7 +1,6 @@
 -- `engine::lines::put_one` meets its contract. Closed by laws of PenLaws.
 use Rattle.said.proofs.PenLaws.{line-head}
 use mathlib.Core.List.{[], ◌∷◌}
-use borrow.Author.Rules.{rules}
 use native.Mathlib.Omega.{arith}
 use Rattle.engine.proofs.lines.put_one.Goals as goal
 

@@ -2,7 +2,6 @@
 use Rattle.said.proofs.PenLaws.{line-head}
 use mathlib.Core.List.{◌∷◌}
 use Rattle.book.specs.Lines.{terms_octets}
-use borrow.Author.Rules.{rules}
 use native.Mathlib.Omega.{arith}
 use Rattle.engine.proofs.lines.put_terms.Goals as goal
 

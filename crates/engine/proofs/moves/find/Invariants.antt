@@ -1,12 +1,9 @@
 -- `engine::moves::find` meets its contract. Closed by laws of MoveLaws and WaitingLaws.
-use Rattle.engine.proofs.MoveLaws.{found_here, found_on}
-use Rattle.state.proofs.WaitingLaws.{find_past}
 use Rattle.book.specs.Waiting.{place_of}
 use lib.ListN.{drop, take}
 use mathlib.Core.Path.{◌≡◌}
 use Prim.Native.Nat.{◌-◌}
 use Rattle.image.specs.Image.{unit_of}
-use borrow.Author.Rules.{rules}
 use Rattle.engine.proofs.moves.find.Given as goal
 
 abbrev pub invariant-loop-i : goal.invariant-loop-i

@@ -1,9 +1,7 @@
 -- `engine::moves::remove` meets its contract. The invariant: what is left of closing up is the whole of it (MoveLaws, Closing).
-use Rattle.engine.proofs.MoveLaws.{Closing, closing_starts, closing_on, removed-by}
+use Rattle.engine.proofs.MoveLaws.{closing_starts, closing_on, removed-by}
 use Rattle.image.proofs.ReaderLaws.{eight_wait}
-use Prim.Native.Nat.{◌-◌}
-use mathlib.Core.Path.{◌≡◌, refl}
-use lib.ListN.{length}
+use mathlib.Core.Path.{refl}
 use Rattle.image.specs.Image.{unit_of}
 use borrow.Author.Rules.{rules}
 use native.Mathlib.Omega.{arith}

@@ -1,7 +1,6 @@
 -- `engine::requests::join` meets its contract. Closed by laws of RequestLaws.
 use Rattle.turn_laws.proofs.RequestLaws.{join_sure, join_plain}
 use Rattle.image.specs.Image.{unit_of}
-use borrow.Author.Rules.{rules}
 use Rattle.engine.proofs.requests.join.Goals as goal
 
 pub returns-then-c-eq1 : goal.returns-then-c-eq1

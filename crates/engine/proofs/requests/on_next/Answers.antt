@@ -4,7 +4,6 @@ use Rattle.engine.proofs.TurnLaws.{refused_in_place}
 use mathlib.Core.Path.{refl, ap, ◌∙◌}
 use Rattle.book.specs.Book.{same_terms}
 use native.Mathlib.Omega.{arith}
-use borrow.Author.Rules.{rules}
 use mathlib.Core.Bool.{not}
 use Rattle.engine.proofs.requests.on_next.Goals as goal
 

@@ -1,7 +1,6 @@
 -- `engine::requests::on_next_plain` meets its contract. Closed by laws of RequestLaws and TurnLaws.
 use Rattle.turn_laws.proofs.RequestLaws.{asked_next_plain}
 use Rattle.engine.proofs.TurnLaws.{as_turn}
-use borrow.Author.Rules.{rules}
 use Rattle.engine.proofs.requests.on_next_plain.Goals as goal
 
 pub returns : goal.returns

@@ -4,7 +4,6 @@ use Rattle.engine.proofs.TurnLaws.{refused_in_place}
 use mathlib.Core.Path.{refl}
 use Rattle.image.specs.Image.{unit_of}
 use native.Mathlib.Omega.{arith}
-use borrow.Author.Rules.{rules}
 use Rattle.engine.proofs.requests.on_request.Goals as goal
 
 pub returns-in_default : goal.returns-in_default

@@ -1,7 +1,6 @@
 -- `engine::requests::on_single` meets its contract. Closed by laws of TurnLaws.
 use Rattle.engine.proofs.TurnLaws.{refused_in_place, single_not}
 use mathlib.Core.Path.{refl, sym, ◌∙◌}
-use borrow.Author.Rules.{rules}
 use Rattle.engine.proofs.requests.on_single.Goals as goal
 
 pub on_idle_single-requires : goal.on_idle_single-requires

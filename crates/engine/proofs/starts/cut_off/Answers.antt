@@ -1,7 +1,6 @@
 -- `engine::starts::cut_off` meets its contract. Closed by laws of StartLaws and TurnLaws.
 use Rattle.turn_laws.proofs.StartLaws.{cut-made}
 use Rattle.engine.proofs.TurnLaws.{as_turn}
-use borrow.Author.Rules.{rules}
 use Rattle.engine.proofs.starts.cut_off.Goals as goal
 
 pub returns : goal.returns

@@ -1,7 +1,6 @@
 -- `engine::starts::on_answered` meets its contract. Closed by laws of StartLaws and TurnLaws.
 use Rattle.turn_laws.proofs.StartLaws.{answered}
 use Rattle.engine.proofs.TurnLaws.{as_turn}
-use borrow.Author.Rules.{rules}
 use Rattle.engine.proofs.starts.on_answered.Goals as goal
 
 pub returns : goal.returns

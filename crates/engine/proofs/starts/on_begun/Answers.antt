@@ -2,7 +2,6 @@
 use Rattle.image.specs.Image.{unit_of}
 use Rattle.turn_laws.proofs.StartLaws.{began}
 use Rattle.engine.proofs.TurnLaws.{as_turn, entered_as}
-use borrow.Author.Rules.{rules}
 use Rattle.engine.proofs.starts.on_begun.Goals as goal
 
 pub returns : goal.returns

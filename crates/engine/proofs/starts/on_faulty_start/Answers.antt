@@ -1,7 +1,6 @@
 -- `engine::starts::on_faulty_start` meets its contract. Closed by laws of StartLaws and TurnLaws.
 use Rattle.turn_laws.proofs.StartLaws.{fault_made}
 use Rattle.engine.proofs.TurnLaws.{as_turn}
-use borrow.Author.Rules.{rules}
 use Rattle.engine.proofs.starts.on_faulty_start.Goals as goal
 
 pub returns : goal.returns

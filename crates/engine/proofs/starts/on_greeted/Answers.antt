@@ -2,7 +2,6 @@
 use Rattle.turn_laws.proofs.StartLaws.{greeted_note, greeted_multi}
 use Rattle.turn_laws.proofs.Gave.{turned_as}
 use native.Mathlib.Omega.{arith}
-use borrow.Author.Rules.{rules}
 use Rattle.engine.proofs.starts.on_greeted.Goals as goal
 
 pub returns-then-h-gt1 : goal.returns-then-h-gt1

@@ -1,6 +1,5 @@
 -- `engine::starts::on_multi_answer` meets its contract. Closed by laws of StartLaws.
 use Rattle.turn_laws.proofs.StartLaws.{multi_begun, multi_octets, multi_rejected}
-use borrow.Author.Rules.{rules}
 use Rattle.engine.proofs.starts.on_multi_answer.Goals as goal
 
 pub returns-then-frame-eq0 : goal.returns-then-frame-eq0

@@ -1,7 +1,6 @@
 -- `engine::starts::on_opened` meets its contract. Closed by laws of StartLaws and TurnLaws.
 use Rattle.turn_laws.proofs.StartLaws.{opened}
 use Rattle.engine.proofs.TurnLaws.{as_turn}
-use borrow.Author.Rules.{rules}
 use Rattle.engine.proofs.starts.on_opened.Goals as goal
 
 pub returns : goal.returns

@@ -2,7 +2,6 @@
 use Rattle.turn_laws.proofs.StartLaws.{single_accepted, single_rejected}
 use Rattle.engine.proofs.TurnLaws.{refused_in_place, reply_refused, in_1}
 use mathlib.Core.Path.{refl, ◌∙◌}
-use borrow.Author.Rules.{rules}
 use Rattle.engine.proofs.starts.on_reply.Goals as goal
 
 pub returns-then-s-ne1 : goal.returns-then-s-ne1

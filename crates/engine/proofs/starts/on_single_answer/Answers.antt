@@ -4,7 +4,6 @@ use Rattle.engine.proofs.TurnLaws.{as_turn}
 use Rattle.book.proofs.Views.{reads_made}
 use mathlib.Core.Path.{sym, ◌∙◌}
 use native.Mathlib.Omega.{arith}
-use borrow.Author.Rules.{rules}
 use Rattle.engine.proofs.starts.on_single_answer.Goals as goal
 
 pub returns-then-count-eq0 : goal.returns-then-count-eq0

@@ -4,7 +4,6 @@ use Rattle.turn_laws.proofs.StartLaws.{shot_plain, shot_sure}
 use Rattle.engine.proofs.TurnLaws.{as_turn, name_as}
 use mathlib.Core.List.{[], ◌∷◌}
 use native.Mathlib.Omega.{arith}
-use borrow.Author.Rules.{rules}
 use Rattle.engine.proofs.starts.on_single_shot.Goals as goal
 
 pub returns-then-c-eq0 : goal.returns-then-c-eq0

@@ -4,7 +4,6 @@ use Rattle.engine.proofs.TurnLaws.{refused_in_place, start_refused, in_0}
 use Rattle.book.proofs.Views.{reads_made}
 use mathlib.Core.Path.{refl, sym, ◌∙◌}
 use native.Mathlib.Omega.{arith}
-use borrow.Author.Rules.{rules}
 use Rattle.engine.proofs.starts.on_start.Goals as goal
 
 pub returns-then-state-ne0 : goal.returns-then-state-ne0

@@ -1,10 +1,8 @@
 -- `engine::stores::fill` meets its contract. Closed by laws of MoveLaws.
 use Rattle.engine.proofs.MoveLaws.{fill_step, fill_end}
-use Prim.Native.Nat.{◌≤◌, ◌-◌, ◌+◌}
-use lib.ListN.{length, length-set, replicate}
-use lib.Seq.{sets}
+use lib.ListN.{length-set}
 use native.Mathlib.Nat.{add-zero, sub-zero}
-use mathlib.Core.Path.{◌≡◌, refl, sym, ◌∙◌}
+use mathlib.Core.Path.{refl, sym, ◌∙◌}
 use borrow.Author.Rules.{rules}
 use Rattle.engine.proofs.stores.fill.Goals as goal
 

@@ -1,11 +1,8 @@
 -- `engine::stores::fill` meets its contract. Closed by laws of MoveLaws.
-use Rattle.engine.proofs.MoveLaws.{fill_step, fill_end}
 use Prim.Native.Nat.{◌≤◌, ◌-◌, ◌+◌}
-use lib.ListN.{length, length-set, replicate}
+use lib.ListN.{length, replicate}
 use lib.Seq.{sets}
-use native.Mathlib.Nat.{add-zero, sub-zero}
-use mathlib.Core.Path.{◌≡◌, refl, sym, ◌∙◌}
-use borrow.Author.Rules.{rules}
+use mathlib.Core.Path.{◌≡◌}
 use Rattle.engine.proofs.stores.fill.Given as goal
 
 abbrev pub invariant-loop-i : goal.invariant-loop-i

@@ -1,9 +1,6 @@
 -- `phrases::spelling::all_printable` meets its contract. The invariant: the octets that are left decide for all (SpellLaws).
-use Prim.Native.Nat.{◌≤◌, ◌-◌}
 use mathlib.Core.Bool.{not}
 use mathlib.Core.Path.{ap, refl}
-use lib.ListN.{length, drop}
-use Rattle.phrases.specs.Spelling.{all_printable}
 use Rattle.phrases.proofs.SpellLaws.{all_stops, all_goes_on, all_end}
 use borrow.Author.Rules.{rules}
 use Rattle.phrases.proofs.spelling.all_printable.Goals as goal

@@ -1,6 +1,5 @@
 -- `session::answers::begin` meets its contract. Closed by AnswerLaws, one law for each way out.
 use Rattle.session.proofs.AnswerLaws.{begin_good, begin_refused}
-use borrow.Author.Rules.{rules}
 use Rattle.session.proofs.answers.begin.Goals as goal
 
 pub returns-in-Done : goal.returns-in-Done

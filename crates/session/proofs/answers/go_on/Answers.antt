@@ -1,6 +1,5 @@
 -- `session::answers::go_on` meets its contract. Closed by AnswerLaws: the lines of the turn, and then the state.
 use Rattle.session.proofs.AnswerLaws.{goes_on}
-use borrow.Author.Rules.{rules}
 use Rattle.session.proofs.answers.go_on.Goals as goal
 
 pub returns : goal.returns

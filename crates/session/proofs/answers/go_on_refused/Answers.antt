@@ -1,6 +1,5 @@
 -- `session::answers::go_on_refused` meets its contract. Closed by AnswerLaws: the refusal, then the state.
 use Rattle.session.proofs.AnswerLaws.{goes_refused}
-use borrow.Author.Rules.{rules}
 use Rattle.session.proofs.answers.go_on_refused.Goals as goal
 
 pub returns : goal.returns

@@ -1,7 +1,6 @@
 -- `session::answers::heard` meets its contract. Closed by AnswerLaws, one law for each phase.
 use mathlib.Core.Option.{some}
 use Rattle.session.proofs.AnswerLaws.{answer_first, answer_running, answer_stopped}
-use borrow.Author.Rules.{rules}
 use Rattle.session.proofs.answers.heard.Goals as goal
 
 pub returns-in-First : goal.returns-in-First

@@ -1,7 +1,6 @@
 -- `session::answers::refused` meets its contract. Closed by AnswerLaws, one law for each phase.
 use mathlib.Core.Option.{none}
 use Rattle.session.proofs.AnswerLaws.{answer_first, answer_running, answer_stopped}
-use borrow.Author.Rules.{rules}
 use Rattle.session.proofs.answers.refused.Goals as goal
 
 pub returns-in-First : goal.returns-in-First

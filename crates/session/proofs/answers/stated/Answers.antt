@@ -1,6 +1,5 @@
 -- `session::answers::stated` meets its contract. Closed by what was read and printed.
 use Rattle.session.proofs.AnswerLaws.{states}
-use borrow.Author.Rules.{rules}
 use Rattle.session.proofs.answers.stated.Goals as goal
 
 pub returns : goal.returns

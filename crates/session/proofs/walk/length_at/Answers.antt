@@ -1,7 +1,6 @@
 -- `session::walk::length_at` meets its contract. Closed by WalkLaws: the two octets at a place.
 use native.Mathlib.Omega.{arith}
 use Rattle.session.proofs.WalkLaws.{length_is}
-use borrow.Author.Rules.{rules}
 use Rattle.session.proofs.walk.length_at.Goals as goal
 
 pub returns : goal.returns

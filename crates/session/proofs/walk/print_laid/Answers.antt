@@ -1,6 +1,6 @@
 -- `session::walk::print_laid` meets its contract. The invariant: the lines that are left, printed now, give the whole (WalkLaws: `Walked`).
 use native.Mathlib.Omega.{arith}
-use Rattle.session.proofs.WalkLaws.{Walked, walk_start, walk_has, walk_within, walk_step, walk_end, line_as}
+use Rattle.session.proofs.WalkLaws.{walk_start, walk_has, walk_within, walk_step, walk_end, line_as}
 use borrow.Author.Rules.{rules}
 use Rattle.session.proofs.walk.print_laid.Goals as goal
 

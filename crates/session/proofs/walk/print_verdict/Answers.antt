@@ -1,7 +1,6 @@
 -- `session::walk::print_verdict` meets its contract. Closed by WalkLaws, one law for each way out.
 use Rattle.session.proofs.WalkLaws.{verdict_size_lem, verdict_laid, verdict_refused}
 use native.Mathlib.Omega.{arith}
-use borrow.Author.Rules.{rules}
 use Rattle.session.proofs.walk.print_verdict.Goals as goal
 
 pub print_laid-requires : goal.print_laid-requires

@@ -2,7 +2,6 @@
 use Rattle.book.proofs.Views.{reads_made}
 use Rattle.turn_laws.proofs.DataLaws.{heard_bad, heard_good}
 use native.Mathlib.Omega.{arith}
-use borrow.Author.Rules.{rules}
 use Rattle.unit.proofs.data.on_data.Goals as goal
 
 pub on_message-requires : goal.on_message-requires

@@ -1,7 +1,6 @@
 -- `unit::data::on_note` meets its contract. Closed by laws of DataLaws, one for each way out.
 use Rattle.turn_laws.proofs.DataLaws.{heard_note_none, heard_note_some, note_remove}
 use native.Mathlib.Omega.{arith}
-use borrow.Author.Rules.{rules}
 use Rattle.unit.proofs.data.on_note.Goals as goal
 
 pub shape_of-out-in_default : goal.shape_of-out-in_default

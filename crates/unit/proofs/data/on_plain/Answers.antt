@@ -1,6 +1,5 @@
 -- `unit::data::on_plain` meets its contract. Closed by laws of DataLaws, one for each way out.
 use Rattle.turn_laws.proofs.DataLaws.{heard_plain}
-use borrow.Author.Rules.{rules}
 use Rattle.unit.proofs.data.on_plain.Goals as goal
 
 pub returns : goal.returns

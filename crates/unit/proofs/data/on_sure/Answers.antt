@@ -1,7 +1,6 @@
 -- `unit::data::on_sure` meets its contract. Closed by laws of DataLaws, one for each way out.
 use Rattle.turn_laws.proofs.DataLaws.{heard_sure_assoc, heard_sure_ending}
 use native.Mathlib.Omega.{arith}
-use borrow.Author.Rules.{rules}
 use Rattle.unit.proofs.data.on_sure.Goals as goal
 
 pub put_noted-done-requires : goal.put_noted-done-requires

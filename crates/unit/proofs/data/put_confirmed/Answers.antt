@@ -3,7 +3,6 @@ use mathlib.Core.Path.{ap}
 use mathlib.Core.List.{[], ◌∷◌}
 use Rattle.frame.specs.Stripping.{bare_to}
 use Rattle.said.proofs.PenLaws.{laid_as}
-use borrow.Author.Rules.{rules}
 use Rattle.unit.proofs.data.put_confirmed.Goals as goal
 
 pub returns : goal.returns

@@ -1,7 +1,6 @@
 -- `unit::ends::fall` meets its contract. Closed by laws of EndLaws, one for each way out.
 use Rattle.turn_laws.proofs.EndLaws.{fell}
 use native.Mathlib.Omega.{arith}
-use borrow.Author.Rules.{rules}
 use Rattle.unit.proofs.ends.fall.Goals as goal
 
 pub put_lost-done-requires : goal.put_lost-done-requires

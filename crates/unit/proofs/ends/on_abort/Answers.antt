@@ -1,6 +1,5 @@
 -- `unit::ends::on_abort` meets its contract. Closed by laws of EndLaws, one for each way out.
 use Rattle.turn_laws.proofs.EndLaws.{aborted}
-use borrow.Author.Rules.{rules}
 use Rattle.unit.proofs.ends.on_abort.Goals as goal
 
 pub returns : goal.returns

@@ -1,6 +1,5 @@
 -- `unit::ends::on_end` meets its contract. Closed by laws of EndLaws, one for each way out.
 use Rattle.turn_laws.proofs.EndLaws.{asked_end}
-use borrow.Author.Rules.{rules}
 use Rattle.unit.proofs.ends.on_end.Goals as goal
 
 pub returns : goal.returns

@@ -1,6 +1,5 @@
 -- `unit::ends::on_end_answered` meets its contract. Closed by laws of EndLaws, one for each way out.
 use Rattle.turn_laws.proofs.EndLaws.{agreed, declined}
-use borrow.Author.Rules.{rules}
 use Rattle.unit.proofs.ends.on_end_answered.Goals as goal
 
 pub returns-then-accepted : goal.returns-then-accepted

@@ -1,7 +1,6 @@
 -- `unit::ends::on_end_asked` meets its contract. Closed by laws of EndLaws, one for each way out.
 use Rattle.turn_laws.proofs.EndLaws.{was_ended}
 use native.Mathlib.Omega.{arith}
-use borrow.Author.Rules.{rules}
 use Rattle.unit.proofs.ends.on_end_asked.Goals as goal
 
 pub put_uncertain-next-requires : goal.put_uncertain-next-requires

@@ -1,7 +1,6 @@
 -- `unit::ends::on_tick` meets its contract. Closed by laws of EndLaws, one for each way out.
 use Rattle.turn_laws.proofs.EndLaws.{ticked_idle, ticked_early, ticked_end, ticked_fall}
 use native.Mathlib.Omega.{arith}
-use borrow.Author.Rules.{rules}
 use Rattle.unit.proofs.ends.on_tick.Goals as goal
 
 pub returns-then-s-eq0 : goal.returns-then-s-eq0

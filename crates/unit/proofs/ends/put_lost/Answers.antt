@@ -1,7 +1,6 @@
 -- `unit::ends::put_lost` meets its contract. Closed by laws of EndLaws, one for each way out.
 use Rattle.turn_laws.proofs.EndLaws.{lost_put}
 use native.Mathlib.Omega.{arith}
-use borrow.Author.Rules.{rules}
 use Rattle.unit.proofs.ends.put_lost.Goals as goal
 
 pub put_line-requires : goal.put_line-requires

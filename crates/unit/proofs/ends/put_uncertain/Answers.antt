@@ -1,7 +1,6 @@
 -- `unit::ends::put_uncertain` meets its contract. Closed by laws of Gave, one for each way out.
 use Rattle.turn_laws.proofs.Gave.{doubts_put}
 use native.Mathlib.Omega.{arith}
-use borrow.Author.Rules.{rules}
 use Rattle.unit.proofs.ends.put_uncertain.Goals as goal
 
 pub returns : goal.returns

@@ -1,10 +1,5 @@
 -- `unit::lines::put_answers` meets its contract. The invariant: the answers so far are laid, in their order, and the bounds hold.
-use Prim.Native.Nat.{◌≤◌, ◌-◌, ◌+◌, ◌*◌}
 use mathlib.Core.Path.{◌≡◌, refl}
-use mathlib.Core.List.{map}
-use lib.ListN.{length, take}
-use Rattle.said.specs.Pens.{Laid}
-use Rattle.said.specs.Notes.{answer_line}
 use Rattle.said.proofs.PenLaws.{laid_none, laid_as, and_then, answers-more}
 use native.Mathlib.Omega.{arith}
 use borrow.Author.Rules.{rules}

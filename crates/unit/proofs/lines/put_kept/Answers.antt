@@ -5,7 +5,6 @@ use lib.ListN.{take}
 use lib.Seq.{length-take-le}
 use Rattle.said.proofs.PenLaws.{line_made}
 use native.Mathlib.Omega.{arith}
-use borrow.Author.Rules.{rules}
 use Rattle.unit.proofs.lines.put_kept.Goals as goal
 
 pub slice_bounds-put-end : goal.slice_bounds-put-end

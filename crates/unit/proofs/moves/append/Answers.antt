@@ -1,6 +1,5 @@
 -- `unit::moves::append` meets its contract. Closed by `search rules`.
 use Rattle.turn_laws.specs.Moves.{waiting_with}
-use borrow.Author.Rules.{rules}
 use Rattle.unit.proofs.moves.append.Goals as goal
 
 pub returns : goal.returns

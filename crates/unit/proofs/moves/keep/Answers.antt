@@ -1,6 +1,5 @@
 -- `unit::moves::keep` meets its contract. Closed by `search rules`.
 use Rattle.turn_laws.specs.Moves.{keeping}
-use borrow.Author.Rules.{rules}
 use Rattle.unit.proofs.moves.keep.Goals as goal
 
 pub returns : goal.returns

@@ -1,6 +1,5 @@
 -- `unit::moves::remove` meets its contract. Closed by `search rules`.
 use Rattle.turn_laws.specs.Moves.{waiting_with}
-use borrow.Author.Rules.{rules}
 use Rattle.unit.proofs.moves.remove.Goals as goal
 
 pub returns : goal.returns

@@ -1,7 +1,6 @@
 -- `unit::moves::rest` meets its contract. Closed by `search rules`.
 use borrow.Author.Tests.{eq-eqb, ne_eqb}
 use Rattle.turn_laws.specs.Moves.{rested, advanced}
-use borrow.Author.Rules.{rules}
 use Rattle.unit.proofs.moves.rest.Goals as goal
 
 pub returns-then-s-eq4 : goal.returns-then-s-eq4

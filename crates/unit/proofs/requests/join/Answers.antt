@@ -1,6 +1,5 @@
 -- `unit::requests::join` meets its contract. Closed by laws of RequestLaws, one for each way out.
 use Rattle.turn_laws.proofs.RequestLaws.{join_sure, join_plain}
-use borrow.Author.Rules.{rules}
 use Rattle.unit.proofs.requests.join.Goals as goal
 
 pub returns-then-c-eq1 : goal.returns-then-c-eq1

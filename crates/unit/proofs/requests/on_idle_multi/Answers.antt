@@ -1,6 +1,5 @@
 -- `unit::requests::on_idle_multi` meets its contract. Closed by laws of RequestLaws, one for each way out.
 use Rattle.turn_laws.proofs.RequestLaws.{asked_multi, frame_short, kept_room}
-use borrow.Author.Rules.{rules}
 use Rattle.unit.proofs.requests.on_idle_multi.Goals as goal
 
 pub keep-w-requires : goal.keep-w-requires

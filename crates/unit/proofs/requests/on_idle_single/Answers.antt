@@ -1,6 +1,5 @@
 -- `unit::requests::on_idle_single` meets its contract. Closed by laws of RequestLaws, one for each way out.
 use Rattle.turn_laws.proofs.RequestLaws.{asked_single, idle_room}
-use borrow.Author.Rules.{rules}
 use Rattle.unit.proofs.requests.on_idle_single.Goals as goal
 
 pub join-x-requires : goal.join-x-requires

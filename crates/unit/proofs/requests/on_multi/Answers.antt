@@ -1,6 +1,5 @@
 -- `unit::requests::on_multi` meets its contract. Closed by laws of RequestLaws, one for each way out.
 use Rattle.turn_laws.proofs.RequestLaws.{next_multi}
-use borrow.Author.Rules.{rules}
 use Rattle.unit.proofs.requests.on_multi.Goals as goal
 
 pub on_next-requires : goal.on_next-requires

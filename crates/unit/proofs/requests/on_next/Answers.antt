@@ -2,7 +2,6 @@
 use Rattle.turn_laws.proofs.Gave.{refuses}
 use Rattle.turn_laws.proofs.RequestLaws.{ask_3, same_made}
 use native.Mathlib.Omega.{arith}
-use borrow.Author.Rules.{rules}
 use mathlib.Core.Bool.{not}
 use mathlib.Core.Path.{ap}
 use Rattle.unit.proofs.requests.on_next.Goals as goal

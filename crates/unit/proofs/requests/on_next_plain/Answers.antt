@@ -1,6 +1,5 @@
 -- `unit::requests::on_next_plain` meets its contract. Closed by laws of RequestLaws, one for each way out.
 use Rattle.turn_laws.proofs.RequestLaws.{asked_next_plain}
-use borrow.Author.Rules.{rules}
 use Rattle.unit.proofs.requests.on_next_plain.Goals as goal
 
 pub returns : goal.returns

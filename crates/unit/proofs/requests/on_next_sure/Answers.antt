@@ -4,7 +4,6 @@ use Rattle.turn_laws.specs.Moves.{advanced}
 use Rattle.turn_laws.proofs.Gave.{refuses}
 use Rattle.turn_laws.proofs.RequestLaws.{ask_4, ask_5, asked_next_sure}
 use native.Mathlib.Omega.{arith}
-use borrow.Author.Rules.{rules}
 use Rattle.unit.proofs.requests.on_next_sure.Goals as goal
 
 pub returns-in_default : goal.returns-in_default

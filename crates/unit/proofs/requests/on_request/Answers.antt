@@ -2,7 +2,6 @@
 use Rattle.turn_laws.proofs.Gave.{refuses}
 use Rattle.turn_laws.proofs.RequestLaws.{ask_faulty, ask-extended, ask_other, ask_vetted, reads_zero}
 use native.Mathlib.Omega.{arith}
-use borrow.Author.Rules.{rules}
 use Rattle.unit.proofs.requests.on_request.Goals as goal
 
 pub returns-in_default : goal.returns-in_default

@@ -2,7 +2,6 @@
 use mathlib.Core.Path.{sym, ◌∙◌}
 use Rattle.turn_laws.proofs.Gave.{refuses}
 use Rattle.turn_laws.proofs.RequestLaws.{shot_multi, shot_single, multi_1, single_1, idle_single}
-use borrow.Author.Rules.{rules}
 use Rattle.unit.proofs.requests.on_vetted.Goals as goal
 
 pub on_multi-requires : goal.on_multi-requires

@@ -1,6 +1,5 @@
 -- `unit::starts::cut_off` meets its contract. Closed by laws of StartLaws, one for each way out.
 use Rattle.turn_laws.proofs.StartLaws.{cut-made}
-use borrow.Author.Rules.{rules}
 use Rattle.unit.proofs.starts.cut_off.Goals as goal
 
 pub returns : goal.returns

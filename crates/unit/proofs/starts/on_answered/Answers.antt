@@ -1,7 +1,6 @@
 -- `unit::starts::on_answered` meets its contract. Closed by laws of StartLaws, one for each way out.
 use Rattle.turn_laws.proofs.StartLaws.{answered}
 use native.Mathlib.Omega.{arith}
-use borrow.Author.Rules.{rules}
 use Rattle.unit.proofs.starts.on_answered.Goals as goal
 
 pub put_confirmed-done-requires : goal.put_confirmed-done-requires

@@ -1,6 +1,5 @@
 -- `unit::starts::on_begun` meets its contract. Closed by laws of StartLaws, one for each way out.
 use Rattle.turn_laws.proofs.StartLaws.{began}
-use borrow.Author.Rules.{rules}
 use Rattle.unit.proofs.starts.on_begun.Goals as goal
 
 pub returns : goal.returns

@@ -1,6 +1,5 @@
 -- `unit::starts::on_faulty_start` meets its contract. Closed by laws of StartLaws, one for each way out.
 use Rattle.turn_laws.proofs.StartLaws.{fault_made}
-use borrow.Author.Rules.{rules}
 use Rattle.unit.proofs.starts.on_faulty_start.Goals as goal
 
 pub returns : goal.returns

@@ -2,7 +2,6 @@
 use Rattle.turn_laws.proofs.Gave.{turned_as}
 use Rattle.turn_laws.proofs.StartLaws.{greeted_note, greeted_multi}
 use native.Mathlib.Omega.{arith}
-use borrow.Author.Rules.{rules}
 use Rattle.unit.proofs.starts.on_greeted.Goals as goal
 
 pub cut_off-requires : goal.cut_off-requires

@@ -1,6 +1,5 @@
 -- `unit::starts::on_multi_answer` meets its contract. Closed by laws of StartLaws, one for each way out.
 use Rattle.turn_laws.proofs.StartLaws.{multi_begun, multi_octets, multi_rejected}
-use borrow.Author.Rules.{rules}
 use Rattle.unit.proofs.starts.on_multi_answer.Goals as goal
 
 pub returns-then-frame-eq0 : goal.returns-then-frame-eq0

@@ -1,6 +1,5 @@
 -- `unit::starts::on_opened` meets its contract. Closed by laws of StartLaws, one for each way out.
 use Rattle.turn_laws.proofs.StartLaws.{opened}
-use borrow.Author.Rules.{rules}
 use Rattle.unit.proofs.starts.on_opened.Goals as goal
 
 pub returns : goal.returns

@@ -1,6 +1,5 @@
 -- `unit::starts::on_reply` meets its contract. Closed by laws of StartLaws, one for each way out.
 use Rattle.turn_laws.proofs.StartLaws.{reply_single, single_accepted, single_rejected}
-use borrow.Author.Rules.{rules}
 use Rattle.unit.proofs.starts.on_reply.Goals as goal
 
 pub on_multi_answer-requires : goal.on_multi_answer-requires

@@ -2,7 +2,6 @@
 use Rattle.book.proofs.Views.{reads_made}
 use Rattle.turn_laws.proofs.StartLaws.{nobody_waits, answer_nothing, answer_faulty, answer_whole}
 use native.Mathlib.Omega.{arith}
-use borrow.Author.Rules.{rules}
 use Rattle.unit.proofs.starts.on_single_answer.Goals as goal
 
 pub returns-then-u-eq0 : goal.returns-then-u-eq0

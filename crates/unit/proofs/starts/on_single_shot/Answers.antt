@@ -1,7 +1,6 @@
 -- `unit::starts::on_single_shot` meets its contract. Closed by laws of StartLaws, one for each way out.
 use Rattle.turn_laws.proofs.StartLaws.{shot_plain, shot_sure}
 use native.Mathlib.Omega.{arith}
-use borrow.Author.Rules.{rules}
 use Rattle.unit.proofs.starts.on_single_shot.Goals as goal
 
 pub put_line-done-requires : goal.put_line-done-requires

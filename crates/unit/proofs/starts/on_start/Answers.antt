@@ -2,7 +2,6 @@
 use Rattle.book.proofs.Views.{reads_made}
 use Rattle.turn_laws.proofs.StartLaws.{start_idle, start_none, start_bad, start_good}
 use native.Mathlib.Omega.{arith}
-use borrow.Author.Rules.{rules}
 use Rattle.unit.proofs.starts.on_start.Goals as goal
 
 pub on_opened-requires : goal.on_opened-requires

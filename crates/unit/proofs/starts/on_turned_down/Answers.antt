@@ -1,7 +1,6 @@
 -- `unit::starts::on_turned_down` meets its contract. Closed by laws of StartLaws, one for each way out.
 use Rattle.turn_laws.proofs.StartLaws.{turned_down}
 use native.Mathlib.Omega.{arith}
-use borrow.Author.Rules.{rules}
 use Rattle.unit.proofs.starts.on_turned_down.Goals as goal
 
 pub put_line-done-requires : goal.put_line-done-requires

@@ -1,6 +1,5 @@
 -- `unit::starts::on_unanswered` meets its contract. Closed by laws of StartLaws, one for each way out.
 use Rattle.turn_laws.proofs.StartLaws.{unanswered}
-use borrow.Author.Rules.{rules}
 use Rattle.unit.proofs.starts.on_unanswered.Goals as goal
 
 pub returns : goal.returns

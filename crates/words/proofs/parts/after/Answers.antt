@@ -1,6 +1,5 @@
 -- `words::parts::after` meets its contract. Closed by PartLaws, one law for each way out.
 use Rattle.words.proofs.PartLaws.{after_none, after_some}
-use borrow.Author.Rules.{rules}
 use Rattle.words.proofs.parts.after.Goals as goal
 
 pub returns-then-s-n : goal.returns-then-s-n

@@ -1,8 +1,5 @@
 -- `words::parts::begins` meets its contract. The invariant: what is left of the word decides (PartLaws).
-use Prim.Native.Nat.{◌≤◌, ◌-◌}
-use mathlib.Core.Path.{◌≡◌, refl}
-use lib.ListN.{length, drop}
-use Rattle.words.specs.Lines.{begins}
+use mathlib.Core.Path.{refl}
 use Rattle.words.proofs.PartLaws.{begins_short, begins_differs, begins_same, begins-whole}
 use borrow.Author.Rules.{rules}
 use Rattle.words.proofs.parts.begins.Goals as goal

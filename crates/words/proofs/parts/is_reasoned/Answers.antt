@@ -1,6 +1,5 @@
 -- `words::parts::is_reasoned` meets its contract. Closed by PartLaws, one law for each way out.
 use Rattle.words.proofs.PartLaws.{reasoned_low, reasoned_rest}
-use borrow.Author.Rules.{rules}
 use Rattle.words.proofs.parts.is_reasoned.Goals as goal
 
 pub returns-then-is_pair : goal.returns-then-is_pair

@@ -1,6 +1,5 @@
 -- `words::parts::is_setup` meets its contract. Closed by PartLaws: the limits and the name that were read.
 use mathlib.Core.Path.{◌∙◌}
-use borrow.Author.Rules.{rules}
 use Rattle.words.proofs.PartLaws.{setup_as}
 use Rattle.words.proofs.parts.is_setup.Goals as goal
 

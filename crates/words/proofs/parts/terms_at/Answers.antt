@@ -1,6 +1,5 @@
 -- `words::parts::terms_at` meets its contract. Closed by PartLaws, one law for each way out.
 use Rattle.words.proofs.PartLaws.{terms_as}
-use borrow.Author.Rules.{rules}
 use Rattle.words.proofs.parts.terms_at.Goals as goal
 
 pub returns : goal.returns
