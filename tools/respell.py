@@ -12,6 +12,9 @@ import os
 import re
 import sys
 
+KNOWN = set()
+# Words of the rules themselves, which comments quote.
+QUOTED = {"multiShot", "userData", "messageType", "messageIdentifier", "messageReference"}
 WORD = r"[^\s(){}.;,@\"«»\[\]\\`]+"
 TOKEN = re.compile(r"\"(?:[^\"\\]|\\.)*\"|«[^»]*»|" + WORD)
 DECLARED = re.compile(r"^\s*(?:(?:unfoldable|abbrev|pub|\|)\s+)*((?:" + WORD + r")(?: " + WORD + r")*) : ", re.M)
@@ -58,7 +61,7 @@ def table():
         if not re.match(r"[a-z]", name) or not ("-" in name or re.search("[a-z0-9][A-Z]", name)):
             continue
         parts = name.split("-")
-        if len(parts) > 1 and all(p in functions for p in parts):
+        if len(parts) == 2 and all(p in functions for p in parts) and any(p in LISTS for p in parts):
             new = "-".join(snake(p) for p in parts)
         else:
             new = snake(name)
@@ -86,9 +89,11 @@ def turned(text, pairs, but=()):
 
 
 def comment(text, pairs):
-    """A comment's names: those in camel case, and those between backquotes."""
-    camel = {k: v for k, v in pairs.items() if "-" not in k}
-    return re.sub(r"`[^`]*`", lambda m: turned(m.group(0), pairs), turned(text, camel))
+    """A comment's names: those in camel case, also where port.py turned the name already, and those between backquotes."""
+    def one(m):
+        return snake(m.group(0)) if snake(m.group(0)) in KNOWN - {snake(q) for q in QUOTED} else m.group(0)
+
+    return re.sub(r"`[^`]*`", lambda m: turned(m.group(0), pairs), re.sub(r"(?<![\w-])[a-z]+(?:[A-Z][a-z0-9]*)+(?![\w-])", one, text))
 
 
 def antt(text, pairs, but=None):
@@ -123,6 +128,7 @@ def edit(text, pairs):
 
 def main():
     pairs, declared = table()
+    KNOWN.update(declared, pairs.values())
     meets = collections.defaultdict(list)
     for old, new in pairs.items():
         meets[new].append(old)

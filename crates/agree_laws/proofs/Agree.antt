@@ -39,10 +39,10 @@ pub data Alike (w u : Value) : Type 0 where
   unsound : sound_of w ≡ false → sound_of u ≡ false → Alike w u
 
 module _ (room : ℕ) (w u : Value) (ev : List ℕ) where
-  alike-step : Alike w u → step room w ev ≡ step room u ev
+  alike_step : Alike w u → step room w ev ≡ step room u ev
   unfolding step
-  alike-step (same e) = ap (λ x. step room x ev) e
-  alike-step (unsound a b) = rw (a, b)
+  alike_step (same e) = ap (λ x. step room x ev) e
+  alike_step (unsound a b) = rw (a, b)
 
   alike_verdict : Alike w u → (turn_of w (step room u ev)).verdict ≡ (turn_of u (step room u ev)).verdict
   unfolding step turn_of
@@ -106,9 +106,9 @@ module _ (u : Value) (wide : length u.name ≡ 32) (eight : length u.waiting ≡
   unfolding unit_of image_of rest_octets
   count_cut = number 13
 
-  octets-cut : w.octets ≡ cut 65535 u.octets
+  octets_cut : w.octets ≡ cut 65535 u.octets
   unfolding unit_of image_of rest_octets
-  octets-cut =
+  octets_cut =
       let k = cut 65535 u.octets in
       let h : get_or im 616 0 ≡ k / 256 = number 14 in
       let l : get_or im 617 0 ≡ k % 256 = number 15 in
@@ -130,12 +130,12 @@ module _ (u : Value) (wide : length u.name ≡ 32) (eight : length u.waiting ≡
           let k = octets_bound w (sym q) in
           same
           (fitting_back u wide eight long (cut_small 255 u.letters (omega (arith, letters_cut))) (cut_small 255 u.count (omega (arith, count_cut)))
-          (cut_small 65535 u.octets (omega (arith, octets-cut))))
+          (cut_small 65535 u.octets (omega (arith, octets_cut))))
       go false p false q = unsound (sym q) (sym p)
 
   outcome_is : (room : ℕ) (ev : List ℕ) → outcome_on room (image_of u) ev ≡ step room u ev
   unfolding outcome_on step
-  outcome_is room ev = rw (eq-eqb (length (image_of u)) 618 image_long) (go (ltb room 1024) _ ∙ alike-step room w u ev alike)
+  outcome_is room ev = rw (eq-eqb (length (image_of u)) 618 image_long) (go (ltb room 1024) _ ∙ alike_step room w u ev alike)
     where
       go : (t : Bool) (x : Outcome) → pick t (refused 6) (pick t (refused 6) x) ≡ pick t (refused 6) x
       go true x = refl

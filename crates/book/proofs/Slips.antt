@@ -43,7 +43,7 @@ not_the_oldest = refl
 
 -- "Taking a rejected D-START as failure: for single shot it is the normal carrier of the acknowledgement"
 pub rejected_carries : on_reply G1 false (some (good (okay 7) 0)) (single terms (7 ∷ []) 5) ≡ done idle (answer 7 success (okay 7) ∷ [])
-unfolding on_reply Book.answered-by Book.single_result Book.with_seen Book.result_of
+unfolding on_reply Book.answered_by Book.single_result Book.with_seen Book.result_of
 rejected_carries = refl
 
 -- "Acknowledging in Ending"; and there elapsed is unchanged

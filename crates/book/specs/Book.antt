@@ -7,7 +7,7 @@ use Rattle.book.specs.declared.Terms.{Terms}
 
 -- ---------------------------------------------------------------- messages and lines
 
--- What every frame has beside its confirmation and the fields that a confirmation may need. `maintained` is the multi_shot bit.
+-- What every frame has beside its confirmation and the fields that a confirmation may need. `maintained` is the multiShot bit.
 pub record Body : Type 0 where
   pub maintained : Bool
   pub type : Option ℕ
@@ -127,16 +127,16 @@ unfoldable pub body_of : Msg → Body
 body_of (plain i r q b) = b
 body_of (sure i r q b) = b
 
--- "An acknowledgement frame has the received type if present and multi_shot bit, the received identifier as reference, confirmedOk, the unit's
+-- "An acknowledgement frame has the received type if present and multiShot bit, the received identifier as reference, confirmedOk, the unit's
 -- name as sender."
-unfoldable pub ack-body : Body → Body
-ack-body b = record { maintained = b.maintained; type = b.type; user_data = none }
+unfoldable pub ack_body : Body → Body
+ack_body b = record { maintained = b.maintained; type = b.type; user_data = none }
 
 unfoldable pub ack : Setup → (id : ℕ) → Body → Frame
-unfolding ack-body
-ack s i b = note ok i none s.name (ack-body b)
+unfolding ack_body
+ack s i b = note ok i none s.name (ack_body b)
 
--- "An answer made locally has the name, the waiting identifier as reference, multi_shot single in state 1 and else maintained, and confirmedNotOk
+-- "An answer made locally has the name, the waiting identifier as reference, multiShot single in state 1 and else maintained, and confirmedNotOk
 -- (failed) or confirmedUnknown (uncertain)."
 unfoldable pub local : Setup → (maintained : Bool) → Kind → ℕ → Frame
 local s m k i = note k i none s.name (record { maintained = m; type = none; user_data = none })
@@ -286,11 +286,11 @@ single_result (msg m) = failed
 single_result (note k r i q b) = result_of k
 
 -- "if waiting, a valid frame gives 22 …; an absent or faulty frame gives 22 uncertain (Table 1.3-28). If nobody waits the frame isn't read."
-unfoldable pub answered-by : Setup → List ℕ → Option Reading → List Out
-answered-by s [] f = []
-answered-by s (i ∷ w) none = answer i uncertain (local s false unknown i) ∷ []
-answered-by s (i ∷ w) (some (bad n)) = answer i uncertain (local s false unknown i) ∷ []
-answered-by s (i ∷ w) (some (good f e)) = with_seen e (answer i (single_result f) f ∷ [])
+unfoldable pub answered_by : Setup → List ℕ → Option Reading → List Out
+answered_by s [] f = []
+answered_by s (i ∷ w) none = answer i uncertain (local s false unknown i) ∷ []
+answered_by s (i ∷ w) (some (bad n)) = answer i uncertain (local s false unknown i) ∷ []
+answered_by s (i ∷ w) (some (good f e)) = with_seen e (answer i (single_result f) f ∷ [])
 
 -- "accepted without a frame sends the kept frame by 32, to 4; with octets present, unread, fall with 35 reason 10"
 unfoldable pub begun : Setup → Terms → Msg → Option Reading → Outcome
@@ -302,7 +302,7 @@ begun s a k (some f) = fall s true (ids_of k) 10
 unfoldable pub on_reply : Setup → (accepted : Bool) → Option Reading → State → Outcome
 on_reply s a f idle = refused 1
 on_reply s true f (single T w t) = fall s false w 10
-on_reply s false f (single T w t) = done idle (answered-by s w f)
+on_reply s false f (single T w t) = done idle (answered_by s w f)
 on_reply s true f (multi T k t) = begun s T k f
 on_reply s false f (multi T k t) = done idle (refuse_all s (ids_of k) (gone 3 ∷ []))
 on_reply s a f (ending T w t) = refused 1

@@ -1,5 +1,5 @@
 -- A FRAME FOR PROGRAMS IN C OR RUST: what the reader answers as a block of 26 octets, and what the writer is given as numbers.
--- The block: multi_shot 0, confirmation 1; type 2, identifier 6, reference 10, sender 14, user data 18, of each the place in the frame and the length
+-- The block: multiShot 0, confirmation 1; type 2, identifier 6, reference 10, sender 14, user data 18, of each the place in the frame and the length
 -- (2 octets each); the place after the fields 22, how many extension fields follow 24 (2 each). Numbers are big-endian.
 use Rattle.std.specs.Prelude.{ℕ, ◌+◌, ◌/◌, ◌%◌, ◌≡◌, List, [], ◌∷◌, ◌++◌, length, ltb, eqb}
 use Rattle.std.proofs.Math.Option.{Option, some}

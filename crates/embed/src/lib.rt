@@ -67,7 +67,7 @@ pub extern "C" fn stelquorum_read(frame: &[u8], block: &mut [u8]) -> u32
     }
 }
 
-// Writes an edition 1 frame at the front of `buffer`. The flags are octet 0 of the frame: which fields are present, and multi_shot.
+// Writes an edition 1 frame at the front of `buffer`. The flags are octet 0 of the frame: which fields are present, and multiShot.
 #[unsafe(no_mangle)]
 pub extern "C" fn stelquorum_write(
     flags: u8,

@@ -21,7 +21,7 @@ use Rattle.book.specs.Ready.{Ready}
 use Rattle.book.specs.Sound.{sound_of}
 use Rattle.book.specs.Step.{does, step, turn_of, octets_of, Turned}
 use Rattle.state.proofs.Sounds.{ready}
-use Rattle.turn_laws.proofs.StepLaws.{step-does, step_unsound}
+use Rattle.turn_laws.proofs.StepLaws.{step_does, step_unsound}
 use Rattle.turn_laws.proofs.Gave.{turned_as}
 use Rattle.turn_laws.proofs.Moved.{not_taken}
 use Rattle.image.specs.Image.{unit_of, image_of}
@@ -110,6 +110,6 @@ module _ (image ev out : List ℕ) where
           → Handled image ev out r after out'
       handled z t =
           let o : outcome_on (length out) image ev ≡ does (setup_of (unit_of image)) (event_of ev) (drop (frame_from (event_of ev)) ev) (state_of (unit_of image)) =
-          outcome_is ∙ step-does (length out) (unit_of image) ev h refl z refl in
+          outcome_is ∙ step_does (length out) (unit_of image) ev h refl z refl in
           let a = settled (does (setup_of (unit_of image)) (event_of ev) (drop (frame_from (event_of ev)) ev) (state_of (unit_of image))) t.result in
           record { verdict = rw o a.0; image = rw o a.1; buffer = rw o t.buffer }

@@ -18,7 +18,7 @@ use Rattle.image.specs.Image.{unit_of}
 use Rattle.turn_laws.specs.Moves.{advanced, rested, entered, cleared, keeping, waiting_with, appended, removed}
 use Rattle.turn_laws.proofs.Moved.{padded-sets}
 use Rattle.image.specs.Fields.{with_state, with_elapsed, with_terms, with_count, with_octets, with_waiting, with_kept, forgotten}
-use Rattle.state.proofs.WaitingLaws.{closed-step, closed_end, find_hit, find_on}
+use Rattle.state.proofs.WaitingLaws.{closed_step, closed_end, find_hit, find_on}
 use Rattle.image.proofs.ReaderLaws.{eight_wait}
 use Rattle.engine.specs.Acts.{NoneBehind}
 
@@ -34,17 +34,17 @@ fill_end l at i n h = let b : n - i ≡ 0 = omega arith in rw b
 
 -- ---- the same dialogue
 
-pub advanced-by : (u : Value) (k e : ℕ) {v w : Value} → v ≡ with_state u k → w ≡ with_elapsed v e → w ≡ advanced u k e
+pub advanced_by : (u : Value) (k e : ℕ) {v w : Value} → v ≡ with_state u k → w ≡ with_elapsed v e → w ≡ advanced u k e
 unfolding with_state with_elapsed advanced
-advanced-by u k e p q = q ∙ ap (λ x. with_elapsed x e) p
+advanced_by u k e p q = q ∙ ap (λ x. with_elapsed x e) p
 
 pub rested_4 : (u : Value) {k : ℕ} {v : Value} → k ≡ u.state → k ≡ 4 → v ≡ with_elapsed u 0 → v ≡ rested u
 unfolding with_elapsed rested advanced
 rested_4 u e h q = q ∙ rw (eq-eqb u.state 4 (sym e ∙ h))
 
-pub rested-not : (u : Value) {k : ℕ} → k ≡ u.state → (k ≡ 4 → ⊥) → u ≡ rested u
+pub rested_not : (u : Value) {k : ℕ} → k ≡ u.state → (k ≡ 4 → ⊥) → u ≡ rested u
 unfolding rested advanced
-rested-not u e h = rw (ne_eqb u.state 4 (λ z. h (e ∙ z)))
+rested_not u e h = rw (ne_eqb u.state 4 (λ z. h (e ∙ z)))
 
 -- ---- the kept frame
 
@@ -84,28 +84,28 @@ pub cleared_by : (u : Value) {v w x : Value} → v ≡ entered u 0 (record { cla
 unfolding entered with_waiting with_count cleared
 cleared_by u p q r = r ∙ ap (λ y. with_count y 0) (q ∙ ap (λ y. with_waiting y (replicate 8 0)) p)
 
-pub keeping-by : (u : Value) (f : List ℕ) {v w : Value} → u.kept ≡ replicate 554 0 → length f ≤ 554 → v ≡ with_kept u (sets u.kept 0 f) → w ≡ with_octets v (length f) → w ≡ keeping u f
+pub keeping_by : (u : Value) (f : List ℕ) {v w : Value} → u.kept ≡ replicate 554 0 → length f ≤ 554 → v ≡ with_kept u (sets u.kept 0 f) → w ≡ with_octets v (length f) → w ≡ keeping u f
 unfolding with_kept with_octets keeping
-keeping-by u f z h p q =
+keeping_by u f z h p q =
     q ∙ ap (λ y. with_octets y (length f)) (p ∙ ap (with_kept u) (ap (λ l. sets l 0 f) z ∙ padded-sets 554 f h))
 
 -- ---- the waiting list
 
-pub appended-by : (u : Value) (i : ℕ) {v w : Value} {n : ℕ} → n ≡ u.count → v ≡ with_waiting u (set u.waiting n i) → w ≡ with_count v (n + 1) → w ≡ appended u i
+pub appended_by : (u : Value) (i : ℕ) {v w : Value} {n : ℕ} → n ≡ u.count → v ≡ with_waiting u (set u.waiting n i) → w ≡ with_count v (n + 1) → w ≡ appended u i
 unfolding with_waiting with_count waiting_with
-appended-by u i {n = n} e p q = q ∙ ap (λ y. with_count y (n + 1)) p ∙ ap (λ k. waiting_with u (set u.waiting k i) (k + 1)) e
+appended_by u i {n = n} e p q = q ∙ ap (λ y. with_count y (n + 1)) p ∙ ap (λ k. waiting_with u (set u.waiting k i) (k + 1)) e
 
 -- where nothing stands behind a place, closing up there stores a 0
-closed-tail : (d : ℕ) (w : List ℕ) (i : ℕ) → length w ≡ 8 → i + d ≡ 7 → ((j : ℕ) → i < j → get_or w j 0 ≡ 0) → closed w i ≡ set w i 0
-closed-tail zero w i e h z =
+closed_tail : (d : ℕ) (w : List ℕ) (i : ℕ) → length w ≡ 8 → i + d ≡ 7 → ((j : ℕ) → i < j → get_or w j 0 ≡ 0) → closed w i ≡ set w i 0
+closed_tail zero w i e h z =
     let k : i ≡ 7 = omega arith in
     sym (closed_end w i e (omega arith) (omega arith) refl) ∙ ap (λ n. set w n 0) (sym k)
-closed-tail (suc d) w i e h z =
+closed_tail (suc d) w i e h z =
     let x : get_or w (i + 1) 0 ≡ 0 = z (i + 1) (omega arith) in
     let l : length (set w i 0) ≡ 8 = length-set w i 0 ∙ e in
     let y : (j : ℕ) → i + 1 < j → get_or (set w i 0) j 0 ≡ 0 = λ j k. get_or-set_other w i j 0 0 (λ q. omega arith) ∙ z j (omega arith) in
     let v : get_or (set w i 0) (i + 1) 0 ≡ 0 = get_or-set_other w i (i + 1) 0 0 (λ q. omega arith) ∙ x in
-    sym (closed-step w i e (omega arith) refl) ∙ ap (λ n. closed (set w i n) (i + 1)) x ∙ closed-tail d (set w i 0) (i + 1) l (omega arith) y
+    sym (closed_step w i e (omega arith) refl) ∙ ap (λ n. closed (set w i n) (i + 1)) x ∙ closed_tail d (set w i 0) (i + 1) l (omega arith) y
     ∙ ap (set (set w i 0) (i + 1)) (sym v) ∙ set-get_or (set w i 0) (i + 1) 0
 
 -- what is left of closing up before the place `last`, and that nothing else has changed
@@ -127,18 +127,18 @@ closing_on o u place last i x {v} k h m l e p =
     let w : v.waiting ≡ set u.waiting i (get_or u.waiting (i + 1) 0) = q ∙ ap (set u.waiting i) e in
     record {
       near = omega arith;
-      rest = ap (λ y. closed y (i + 1)) w ∙ closed-step u.waiting i l (omega arith) k.rest;
+      rest = ap (λ y. closed y (i + 1)) w ∙ closed_step u.waiting i l (omega arith) k.rest;
       only = p ∙ ap (λ (y : Value). with_waiting y (set u.waiting i x)) k.only ∙ ap (λ y. with_waiting o y) (sym q);
       none = λ j b. ap (λ y. get_or y j 0) q ∙ get_or-set_other u.waiting i j x 0 (λ z. omega arith) ∙ k.none j b;
     }
 
-pub removed-by : (o u : Value) (place last i n : ℕ) {v w : Value} → Closing o u place last i → last ≤ i → last < 8 → length u.waiting ≡ 8
+pub removed_by : (o u : Value) (place last i n : ℕ) {v w : Value} → Closing o u place last i → last ≤ i → last < 8 → length u.waiting ≡ 8
     → v ≡ with_waiting u (set u.waiting last 0) → n ≡ o.count → last ≡ n - 1 → w ≡ with_count v last → w ≡ removed o place
 unfolding with_waiting with_count waiting_with
-removed-by o u place last i n {v} k h m l p e f q =
+removed_by o u place last i n {v} k h m l p e f q =
     let g : i ≡ last = omega (arith, k.near) in
     let a : set u.waiting last 0 ≡ closed o.waiting place =
-    sym (closed-tail (7 - last) u.waiting last l (omega arith) k.none) ∙ ap (closed u.waiting) (sym g) ∙ k.rest in
+    sym (closed_tail (7 - last) u.waiting last l (omega arith) k.none) ∙ ap (closed u.waiting) (sym g) ∙ k.rest in
     let b : v ≡ with_waiting o (closed o.waiting place) = p ∙ ap (λ (y : Value). with_waiting y (set u.waiting last 0)) k.only ∙ ap (with_waiting o) a in
     let c : last ≡ o.count - 1 = omega arith in
     q ∙ ap (λ (y : Value). with_count y last) b ∙ ap (waiting_with o (closed o.waiting place)) c
@@ -170,9 +170,9 @@ pub rested_behind : (u : Value) {v : Value} → v ≡ rested u → NoneBehind u 
 unfolding rested advanced
 rested_behind u e z j h = ap (λ (y : Value). get_or y.waiting j 0) e ∙ z j (rw e at h)
 
-pub rested-count : (u : Value) {v : Value} → v ≡ rested u → v.count ≡ u.count
+pub rested_count : (u : Value) {v : Value} → v ≡ rested u → v.count ≡ u.count
 unfolding rested advanced
-rested-count u e = ap (λ (y : Value). y.count) e
+rested_count u e = ap (λ (y : Value). y.count) e
 
 -- a step of looking for an identifier, by the one that is read
 module _ (s : List ℕ) (x i n : ℕ) {r : ℕ} (e : place_of x i (drop i (take n (unit_of s).waiting)) ≡ place_of x 0 (take n (unit_of s).waiting)) (h : i < n) (m : n ≤ 8)

@@ -166,9 +166,9 @@ module _ (s : List ℕ) (at : ℕ) (more : Bool) where
   unfolding rest_at
   rest_end e h = simp (e, le-leb (length s) at h)
 
-  pub rest-left : more ≡ false → at < length s → Wrong LeftOver ≡ rest_at s more at
+  pub rest_left : more ≡ false → at < length s → Wrong LeftOver ≡ rest_at s more at
   unfolding rest_at
-  rest-left e h = simp (e, lt-leb (length s) at h)
+  rest_left e h = simp (e, lt-leb (length s) at h)
 
 module _ (s : List ℕ) where
   pub open_long : 1024 < length s → Shut TooLong ≡ opened s

@@ -50,12 +50,12 @@ two (some (x ∷ [])) e = absurd (omega arith)
 two (some (x ∷ y ∷ [])) e = refl
 two (some (x ∷ y ∷ z ∷ s)) e = absurd (omega arith)
 
-not-two : (h : Option (List ℕ)) → (length (octets_or h) ≡ 2 → ⊥) → none ≡ two_octets h
-not-two none e = refl
-not-two (some []) e = refl
-not-two (some (x ∷ [])) e = refl
-not-two (some (x ∷ y ∷ [])) e = absurd (e refl)
-not-two (some (x ∷ y ∷ z ∷ s)) e = refl
+not_two : (h : Option (List ℕ)) → (length (octets_or h) ≡ 2 → ⊥) → none ≡ two_octets h
+not_two none e = refl
+not_two (some []) e = refl
+not_two (some (x ∷ [])) e = refl
+not_two (some (x ∷ y ∷ [])) e = absurd (e refl)
+not_two (some (x ∷ y ∷ z ∷ s)) e = refl
 
 module _ (s : List ℕ) (f : Field) (o : List ℕ) (q : o ≡ part_at s f) where
   pub octet_one : length o ≡ 1 → some (get_or o 0 0) ≡ one_octet (held_at s f)
@@ -66,10 +66,10 @@ module _ (s : List ℕ) (f : Field) (o : List ℕ) (q : o ≡ part_at s f) where
   unfolding part_at
   octet_none e = not_one (held_at s f) (λ z. e (ap length q ∙ z))
 
-  pub number-two : length o ≡ 2 → (x y : ℕ) → x ≡ get_or o 0 0 → y ≡ get_or o 1 0 → some (x * 256 + y) ≡ two_octets (held_at s f)
+  pub number_two : length o ≡ 2 → (x y : ℕ) → x ≡ get_or o 0 0 → y ≡ get_or o 1 0 → some (x * 256 + y) ≡ two_octets (held_at s f)
   unfolding part_at
-  number-two e x y ex ey = rw (ex, ey, q) (two (held_at s f) (rw q at e))
+  number_two e x y ex ey = rw (ex, ey, q) (two (held_at s f) (rw q at e))
 
   pub number_none : (length o ≡ 2 → ⊥) → none ≡ two_octets (held_at s f)
   unfolding part_at
-  number_none e = not-two (held_at s f) (λ z. e (ap length q ∙ z))
+  number_none e = not_two (held_at s f) (λ z. e (ap length q ∙ z))

@@ -52,9 +52,9 @@ module _ (p : Bool) (s : List ℕ) where
   unfolding wrong_data
   data_there e = simp e
 
-present-lent : (p : Bool) (s : List ℕ) → present (lent p s) ≡ p
-present-lent true s = refl
-present-lent false s = refl
+present_lent : (p : Bool) (s : List ℕ) → present (lent p s) ≡ p
+present_lent true s = refl
+present_lent false s = refl
 
 module _ (p : Parts) (s u : List ℕ) (room : ℕ) where
   pub fails_room : room < 1024 → Fails NoRoom ≡ check_of (refusal_of room (message_of p s u))
@@ -69,7 +69,7 @@ module _ (p : Parts) (s u : List ℕ) (room : ℕ) where
     module _ (g : p.confirmation ≤ 4) (i r x : Bool) (qi : i ≡ present (number_in p.identifier)) (qr : r ≡ present (number_in p.reference))
         (qx : x ≡ lacks p.confirmation i r p.has_sender) where
       q : x ≡ lacks p.confirmation (present (number_in p.identifier)) (present (number_in p.reference)) (present (lent p.has_sender s))
-      q = qx ∙ simp (qi, qr, present-lent p.has_sender s)
+      q = qx ∙ simp (qi, qr, present_lent p.has_sender s)
 
       pub fails_lacking : x ≡ true → Fails (Faulty Lacking) ≡ check_of (refusal_of room (message_of p s u))
       unfolding refusal_of fault_in
@@ -177,8 +177,8 @@ check_fails none r e = let n : ◌≡◌ {A = ℕ} 0 1 = cc in absurd (omega ari
 check_fails (some x) r e = ap some (cc)
 
 module _ (m : Message) (b : List ℕ) (k : Check) (q : k ≡ check_of (refusal_of (length b) m)) where
-  pub fits-room : k ≡ Fits → Room m b
-  fits-room e =
+  pub fits_room : k ≡ Fits → Room m b
+  fits_room e =
       let w = refused_none (length b) m (check_fits (refusal_of (length b) m) (sym q ∙ e)) in
       let v = sound m w.1 in
       record { room = w.0; sender_fits = sender_33 m.sender v.sender_right; data_fits = data_514 m.user_data v.data_right }
@@ -257,13 +257,13 @@ pub flags_sum : (p : Parts) (k i r : Bool) → k ≡ present (octet_in p.message
     a + b + c + d + e + f ≡ first_octet false (message_of p [] [])
 unfolding first_octet
 flags_sum p k i r qk qi qr a b c d e f qa qb qc qd qe qf =
-    simp (qa, qb, qc, qd, qe, qf, qk, qi, qr, present-lent p.has_sender [], present-lent p.has_data []) (omega arith)
+    simp (qa, qb, qc, qd, qe, qf, qk, qi, qr, present_lent p.has_sender [], present_lent p.has_data []) (omega arith)
 
 -- octet 0 says whether a sender and user data are there, not what they are
 flags_any : (p : Parts) (s u : List ℕ) → first_octet false (message_of p [] []) ≡ first_octet false (message_of p s u)
 unfolding first_octet
 flags_any p s u =
-    simp (present-lent p.has_sender [], present-lent p.has_data [], present-lent p.has_sender s, present-lent p.has_data u)
+    simp (present_lent p.has_sender [], present_lent p.has_data [], present_lent p.has_sender s, present_lent p.has_data u)
 
 -- an edition 1 frame, without the extension fields that it has not
 pub encode_is : (m : Message) → encode m

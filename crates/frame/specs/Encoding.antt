@@ -9,8 +9,8 @@ abbrev pub weight : Bool → ℕ → ℕ
 weight true w = w
 weight false w = 0
 
--- "Octet 0, from bit 7: extensions follow; message_type present; message_identifier present; message_reference present; sender present;
--- user_data present; bit 1 zero; bit 0 multi_shot"
+-- "Octet 0, from bit 7: extensions follow; messageType present; messageIdentifier present; messageReference present; sender present;
+-- userData present; bit 1 zero; bit 0 multiShot"
 unfoldable pub first_octet : (follow : Bool) → Message → ℕ
 first_octet follow m =
     weight follow 128

@@ -110,7 +110,7 @@ abbrev pub begin : Opening → (ℕ → ℕ → Reading) → Reading
 begin (Open flags confirmation) k = k flags confirmation
 begin (Shut f) k = Faulty f
 
--- "Then the present fields in this order": type, identifier, reference, sender, user_data
+-- "Then the present fields in this order": type, identifier, reference, sender, userData
 unfoldable pub fields_of : List ℕ → (flags confirmation : ℕ) → Reading
 fields_of s flags confirmation =
     and_then (fixed_at s (bit flags 64) 1 2) (λ type at₁.

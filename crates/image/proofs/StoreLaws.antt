@@ -137,9 +137,9 @@ module _ (s : List ℕ) (e : length s ≡ 618) where
         waiting_only n (omega arith) (omega arith)
         (ext_get_or 0 (waiting_in after) (set (waiting_in s) i x) (omega arith) (λ j r. one_id j (omega arith)))
 
-  pub ids-cleared : {t : List ℕ} → t ≡ sets s 32 (replicate 16 0) → unit_of t ≡ with_waiting (unit_of s) (replicate 8 0)
+  pub ids_cleared : {t : List ℕ} → t ≡ sets s 32 (replicate 16 0) → unit_of t ≡ with_waiting (unit_of s) (replicate 8 0)
   unfolding waiting_in
-  ids-cleared q =
+  ids_cleared q =
       let z : (i : ℕ) → i < 16 → get_or (sets s 32 (replicate 16 0)) (32 + i) 0 ≡ 0 = λ i h. get_d_sets (replicate 16 0) s 32 i (omega arith) h ∙ get_or-replicate {A = ℕ} 16 i 0 0 h in
       ap unit_of q ∙ waiting_only (near_sets (replicate 16 0) s 32) (omega arith) (omega arith)
       (rw (

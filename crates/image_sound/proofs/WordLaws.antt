@@ -16,23 +16,23 @@ use Rattle.image_sound.specs.Word.{number, power}
 
 -- ---- a word
 
-pub number-eight : (s : List ℕ) → length s ≡ 8
+pub number_eight : (s : List ℕ) → length s ≡ 8
     → number s ≡ get_or s 0 0 + 256 * (get_or s 1 0 + 256 * (get_or s 2 0 + 256 * (get_or s 3 0 + 256 * (get_or s 4 0 + 256 * (get_or s 5 0 + 256 * (get_or s 6 0 + 256 * get_or s 7 0))))))
-number-eight (a ∷ b ∷ c ∷ d ∷ e ∷ f ∷ g ∷ h ∷ []) q = omega arith
-number-eight (a ∷ b ∷ c ∷ d ∷ e ∷ f ∷ g ∷ h ∷ i ∷ s) q = absurd (omega arith)
-number-eight (a ∷ b ∷ c ∷ d ∷ e ∷ f ∷ g ∷ []) q = absurd (omega arith)
-number-eight (a ∷ b ∷ c ∷ d ∷ e ∷ f ∷ []) q = absurd (omega arith)
-number-eight (a ∷ b ∷ c ∷ d ∷ e ∷ []) q = absurd (omega arith)
-number-eight (a ∷ b ∷ c ∷ d ∷ []) q = absurd (omega arith)
-number-eight (a ∷ b ∷ c ∷ []) q = absurd (omega arith)
-number-eight (a ∷ b ∷ []) q = absurd (omega arith)
-number-eight (a ∷ []) q = absurd (omega arith)
-number-eight [] q = absurd (omega arith)
+number_eight (a ∷ b ∷ c ∷ d ∷ e ∷ f ∷ g ∷ h ∷ []) q = omega arith
+number_eight (a ∷ b ∷ c ∷ d ∷ e ∷ f ∷ g ∷ h ∷ i ∷ s) q = absurd (omega arith)
+number_eight (a ∷ b ∷ c ∷ d ∷ e ∷ f ∷ g ∷ []) q = absurd (omega arith)
+number_eight (a ∷ b ∷ c ∷ d ∷ e ∷ f ∷ []) q = absurd (omega arith)
+number_eight (a ∷ b ∷ c ∷ d ∷ e ∷ []) q = absurd (omega arith)
+number_eight (a ∷ b ∷ c ∷ d ∷ []) q = absurd (omega arith)
+number_eight (a ∷ b ∷ c ∷ []) q = absurd (omega arith)
+number_eight (a ∷ b ∷ []) q = absurd (omega arith)
+number_eight (a ∷ []) q = absurd (omega arith)
+number_eight [] q = absurd (omega arith)
 
 pub word_is : (s : List ℕ) {a b c d : ℕ} → length s ≡ 8 → a ≡ get_or s 0 0 + 256 * get_or s 1 0 → b ≡ get_or s 2 0 + 256 * get_or s 3 0
     → c ≡ get_or s 4 0 + 256 * get_or s 5 0 → d ≡ get_or s 6 0 + 256 * get_or s 7 0 → a + 65536 * (b + 65536 * (c + 65536 * d)) ≡ number s
 word_is s l ea eb ec ed =
-    let e = number-eight s l in
+    let e = number_eight s l in
     omega arith
 
 -- ---- the test
@@ -79,9 +79,9 @@ assoc : (a b c : Bool) → both a (both b c) ≡ both (both a b) c
 assoc true b c = refl
 assoc false b c = refl
 
-zeros-join : (s t : List ℕ) → zeros (s ++ t) ≡ both (zeros s) (zeros t)
-zeros-join [] t = refl
-zeros-join (x ∷ s) t = ap (both (eqb x 0)) (zeros-join s t) ∙ assoc (eqb x 0) (zeros s) (zeros t)
+zeros_join : (s t : List ℕ) → zeros (s ++ t) ≡ both (zeros s) (zeros t)
+zeros_join [] t = refl
+zeros_join (x ∷ s) t = ap (both (eqb x 0)) (zeros_join s t) ∙ assoc (eqb x 0) (zeros s) (zeros t)
 
 zeros-drop : (n : ℕ) (s t : List ℕ) → zeros (drop n (s ++ t)) ≡ both (zeros (drop n s)) (zeros (drop (n - length s) t))
 zeros-drop n [] t =
@@ -89,7 +89,7 @@ zeros-drop n [] t =
     ap (λ k. zeros (drop k t)) e ∙ ap (λ l. both (zeros l) (zeros (drop (n - 0) t))) (sym (drop-nil {A = ℕ} n))
 zeros-drop zero (x ∷ s) t =
     let e : 0 ≡ 0 - length (x ∷ s) = omega arith in
-    zeros-join (x ∷ s) t ∙ ap (λ k. both (zeros (x ∷ s)) (zeros (drop k t))) e
+    zeros_join (x ∷ s) t ∙ ap (λ k. both (zeros (x ∷ s)) (zeros (drop k t))) e
 zeros-drop (suc n) (x ∷ s) t =
     let e : n - length s ≡ suc n - length (x ∷ s) = omega arith in
     zeros-drop n s t ∙ ap (λ k. both (zeros (drop n s)) (zeros (drop k t))) e
@@ -136,13 +136,13 @@ all_pairs m (x ∷ y ∷ s) e =
     ap (λ b. both b (zeros (pairs s))) (both_none x y) ∙ ap (both (both (eqb x 0) (eqb y 0))) (all_pairs (m - 1) s (omega arith))
     ∙ sym (assoc (eqb x 0) (eqb y 0) (zeros s))
 
-zeros-pairs : (n m : ℕ) (s : List ℕ) → length s ≡ 2 * m → zeros (drop n (pairs s)) ≡ zeros (drop (2 * n) s)
-zeros-pairs zero m s e = all_pairs m s e ∙ ap (λ k. zeros (drop k s)) (let z : 0 ≡ 2 * 0 = omega arith in z)
-zeros-pairs (suc n) m [] e = ap zeros (sym (drop-nil {A = ℕ} (2 * suc n)))
-zeros-pairs (suc n) m (x ∷ []) e = absurd (omega arith)
-zeros-pairs (suc n) m (x ∷ y ∷ s) e =
+zeros_pairs : (n m : ℕ) (s : List ℕ) → length s ≡ 2 * m → zeros (drop n (pairs s)) ≡ zeros (drop (2 * n) s)
+zeros_pairs zero m s e = all_pairs m s e ∙ ap (λ k. zeros (drop k s)) (let z : 0 ≡ 2 * 0 = omega arith in z)
+zeros_pairs (suc n) m [] e = ap zeros (sym (drop-nil {A = ℕ} (2 * suc n)))
+zeros_pairs (suc n) m (x ∷ []) e = absurd (omega arith)
+zeros_pairs (suc n) m (x ∷ y ∷ s) e =
     let z : suc (suc (2 * n)) ≡ 2 * suc n = omega arith in
-    zeros-pairs n (m - 1) s (omega arith) ∙ ap (λ k. zeros (drop k (x ∷ y ∷ s))) z
+    zeros_pairs n (m - 1) s (omega arith) ∙ ap (λ k. zeros (drop k (x ∷ y ∷ s))) z
 
 pair_step : (s : List ℕ) (i m : ℕ) → suc i < length s → pairs (take (suc (suc m)) (drop i s)) ≡ (256 * get_or s i 0 + get_or s (suc i) 0) ∷ pairs (take m (drop (suc (suc i)) s))
 pair_step s i m h =
@@ -160,7 +160,7 @@ pub ids_words : (s : List ℕ) (n : ℕ) {k : ℕ} {a b r : Bool} → length s �
     → b ≡ zeros (drop k (take 8 (drop 40 s))) → r ≡ both a b → r ≡ zeros (drop n (unit_of s).waiting)
 ids_words s n e ek ea eb er =
     er ∙ rw (eb, ea, ek) (sym (ap (λ l. zeros (drop n l)) (waiting_of_lem s ∙ waiting_pairs s e)
-    ∙ zeros-pairs n 8 (take 16 (drop 32 s)) (length-take-le 16 (drop 32 s) (omega (arith, length-drop 32 s)))
+    ∙ zeros_pairs n 8 (take 16 (drop 32 s)) (length-take-le 16 (drop 32 s) (omega (arith, length-drop 32 s)))
     ∙ zeros_part s 32 8 (2 * n) (omega arith)))
 
 -- ---- the last power

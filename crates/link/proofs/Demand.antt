@@ -22,9 +22,9 @@ use Rattle.sound_laws.proofs.Within.{Within, in_idle, Limited}
 use Rattle.link.specs.Link.{Log, blank, fields_in, at, Queue, World, swap, inside, as_heard, from_user, ask_near, Side, near, far, Act, user, deliver, abort, do_near, do_at, run, beginning}
 use Rattle.link.specs.Statement.{Good, is_taken, next_taken, Demand3, demand3, Theorem}
 use Rattle.link.proofs.Related.{RelLog, fields_of}
-use Rattle.link.proofs.Pictures.{step-picture}
+use Rattle.link.proofs.Pictures.{step_picture}
 use Rattle.link.proofs.Follows.{rel_end, RelQueue, q_none, q_also, RelWorld, rel_world, rel_swap, is_start, rel_inside}
-use Rattle.link.proofs.Steps.{Follows, stays, goes_on, rel_deliver, rel_break, rel_user, wire-heard}
+use Rattle.link.proofs.Steps.{Follows, stays, goes_on, rel_deliver, rel_break, rel_user, wire_heard}
 
 -- ---- every run is followed
 
@@ -109,7 +109,7 @@ module _ (s : Setup) (st : State) (d : ℕ) (h : Bool) (F : ℕ → Log) (f : �
 
       go : (x : Bool) → S.Accepted (pick x (M.on_line s (M.as_heard st l) st) (refused 1))
           → pick x (is_taken (step 1024 (picture s st) (as_heard (picture s st) ev))) false ≡ true
-      go true k = ap is_taken (step-picture s limited st within (as_heard (picture s st) ev) ∙ (wire-heard s st l v).says s st) ∙ taken_of k
+      go true k = ap is_taken (step_picture s limited st within (as_heard (picture s st) ev) ∙ (wire_heard s st l v).says s st) ∙ taken_of k
       go false k = taken_of k
 
 demand_of : {W : World} (r : Reached W) → Demand3 W

@@ -82,5 +82,5 @@ pub examples :
     × (after (opens [] ++ ((far, deliver []) ∷ (near, ends) ∷ (far, ends) ∷ (far, deliver []) ∷ (near, deliver []) ∷ (near, deliver []) ∷ []))
     ≡ shown 0 (record { handed = sheet 7 ∷ []; given = []; told = okay 7 (0x41 ∷ 0x39 ∷ []) ∷ []; fate = granted }) (7 ∷ []) (7 ∷ [])
     0 (record { handed = []; given = sheet 7 ∷ []; told = []; fate = granted }) [] [] [] [])
-unfolding run ask_near act act_there reach carry note_line note_heard handed_over extended identifier answers asks_for break_near in_order Statement.sent_end Statement.got_end Statement.got_rejected Statement.unbroken set_up within_limits step turn_of does event_of terms_in sound_of setup_sound ids_sound limit_of idle_sound busy_sound kept_none kept_good kept_sound state_sound padded state_of viewed reading_in msg_message frame_message msg_octets frame_octets decode message_at held_at reading_of opened lacks fields_of octets_at fixed_at sender_at data_at extension_at extensions_from rest_at first_octet frame_of encode Book.same_terms Book.settled Book.ids_of Book.waiting_of Book.full Book.without_in Book.without Book.body_of Book.ack-body Book.ack Book.local Book.unsure Book.with_seen Book.fall Book.quiet_fall Book.vet Book.bar_confirmed Book.bar Book.on_single Book.on_multi Book.on_shot Book.on_vetted Book.on_request Book.on_end Book.greet Book.first_contact Book.on_start Book.begun Book.on_reply Book.result_of Book.noted Book.left_waiting Book.on_dat Book.on_fin Book.on_fin_ok Book.on_abort ask grant
+unfolding run ask_near act act_there reach carry note_line note_heard handed_over extended identifier answers asks_for break_near in_order Statement.sent_end Statement.got_end Statement.got_rejected Statement.unbroken set_up within_limits step turn_of does event_of terms_in sound_of setup_sound ids_sound limit_of idle_sound busy_sound kept_none kept_good kept_sound state_sound padded state_of viewed reading_in msg_message frame_message msg_octets frame_octets decode message_at held_at reading_of opened lacks fields_of octets_at fixed_at sender_at data_at extension_at extensions_from rest_at first_octet frame_of encode Book.same_terms Book.settled Book.ids_of Book.waiting_of Book.full Book.without_in Book.without Book.body_of Book.ack_body Book.ack Book.local Book.unsure Book.with_seen Book.fall Book.quiet_fall Book.vet Book.bar_confirmed Book.bar Book.on_single Book.on_multi Book.on_shot Book.on_vetted Book.on_request Book.on_end Book.greet Book.first_contact Book.on_start Book.begun Book.on_reply Book.result_of Book.noted Book.left_waiting Book.on_dat Book.on_fin Book.on_fin_ok Book.on_abort ask grant
 examples = (refl, refl, refl, refl, refl)

@@ -13,7 +13,7 @@ use Rattle.frame.specs.Message.{lacks}
 use Rattle.frame.specs.Writing.{Allowed, fault_in, wrong_sender, wrong_data}
 use Rattle.book.specs.declared.Terms.{Terms}
 use Rattle.book.specs.Sound.{within_limits}
-use Rattle.book.specs.Book.{Body, Msg, plain, sure, Kind, ok, not_ok, unknown, Frame, msg, note, Reading, bad, good, Line, start, reply, dat, fin, fin_ok, cut, Result, Out, give, answer, ended, gone, seen, send, State, idle, single, multi, ending, assoc, Setup, Outcome, refused, done, settled, ids_of, body_of, without, ack, ack-body, local, unsure, refuse_all, with_seen, fall, quiet_fall, vet, bar, on_single, on_multi, on_shot, on_vetted, on_request, on_end, on_tick, greet, first_contact, on_start, answered-by, begun, on_reply, noted, on_dat, on_fin, on_fin_ok, on_abort}
+use Rattle.book.specs.Book.{Body, Msg, plain, sure, Kind, ok, not_ok, unknown, Frame, msg, note, Reading, bad, good, Line, start, reply, dat, fin, fin_ok, cut, Result, Out, give, answer, ended, gone, seen, send, State, idle, single, multi, ending, assoc, Setup, Outcome, refused, done, settled, ids_of, body_of, without, ack, ack_body, local, unsure, refuse_all, with_seen, fall, quiet_fall, vet, bar, on_single, on_multi, on_shot, on_vetted, on_request, on_end, on_tick, greet, first_contact, on_start, answered_by, begun, on_reply, noted, on_dat, on_fin, on_fin_ok, on_abort}
 use Rattle.book.specs.View.{frame_message}
 use Rattle.sound_laws.proofs.Within.{Rated, Within, in_multi, Limited, Keepable, both_right}
 
@@ -99,7 +99,7 @@ module _ (s : Setup) (n : Named s) where
   local_allowed m k i = note_allowed k i m none
 
   pub ack_allowed : (i : ℕ) (b : Body) → AllowedFrame (ack s i b)
-  unfolding ack ack-body
+  unfolding ack ack_body
   ack_allowed i b = note_allowed ok i b.maintained b.type
 
   -- ---- lists of answers, line 25, a fall
@@ -217,8 +217,8 @@ module _ (s : Setup) (n : Named s) where
 
   -- ---- 11
 
-  answered_fine : (w : List ℕ) (h : Option Reading) → HeardHeld h → AllFine (answered-by s w h)
-  unfolding answered-by
+  answered_fine : (w : List ℕ) (h : Option Reading) → HeardHeld h → AllFine (answered_by s w h)
+  unfolding answered_by
   answered_fine [] f h = none_left
   answered_fine (i ∷ w) none h = also (answers (local_allowed s n false unknown i)) none_left
   answered_fine (i ∷ w) (some (bad k)) h = also (answers (local_allowed s n false unknown i)) none_left

@@ -19,7 +19,7 @@ use Rattle.link.specs.Link.{Log, update, Queue, End, at, World, world, swap, pur
 use Rattle.link.proofs.Fine.{FineLine, starts, replies, dats, fins, fin_oks, cuts, FineOut, gives, answers, ends, gones, seens, sends, AllFine, none_left, also, FineOutcome, fine_done}
 use Rattle.link.proofs.Frames.{count}
 use Rattle.link.proofs.Related.{RelLog, rel_outs, rel_answers}
-use Rattle.link.proofs.Wires.{kind_in, Wire, wire-cut, wire_sent}
+use Rattle.link.proofs.Wires.{kind_in, Wire, wire_cut, wire_sent}
 use Rattle.link.proofs.Pictures.{next_picture}
 
 -- ---- related ends, queues, worlds
@@ -111,7 +111,7 @@ rel_post d {ev} {l} v (rel_world {O = O} {o = o} (rel_end {h = h} t u f) b q i) 
 
 rel_sever : (d r : ℕ) (b : Bool) {W : World} {w : M.World} → RelWorld W w → RelWorld (sever d b W) (M.sever d r b w)
 unfolding M.sever
-rel_sever d r true (rel_world a b o i) = rel_world a (rel_hang b) (q_also (wire-cut r) (rel_purge d o)) (rel_purge d i)
+rel_sever d r true (rel_world a b o i) = rel_world a (rel_hang b) (q_also (wire_cut r) (rel_purge d o)) (rel_purge d i)
 rel_sever d r false (rel_world a b o i) = rel_world a b (rel_purge d o) (rel_purge d i)
 
 rel_far : (d : ℕ) {W : World} {w : M.World} → RelWorld W w → far_inside d W ≡ M.far_inside d w

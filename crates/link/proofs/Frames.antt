@@ -61,9 +61,9 @@ added xs f = both (valid_extensions xs) (both (octets (extension_octets xs)) (le
 unfoldable pub count : List Extension → Frame → ℕ
 count xs f = pick (added xs (frame_octets f)) (length xs) 0
 
-decode-extended : (xs : List Extension) (m : Message) → Allowed m → decode (extended xs (encode m)) ≡ valid m (pick (added xs (encode m)) (length xs) 0)
+decode_extended : (xs : List Extension) (m : Message) → Allowed m → decode (extended xs (encode m)) ≡ valid m (pick (added xs (encode m)) (length xs) 0)
 unfolding extended
-decode-extended xs m a = go (added xs (encode m)) refl
+decode_extended xs m a = go (added xs (encode m)) refl
   where
     go : (b : Bool) → b ≡ added xs (encode m) → decode (pick b (follow xs (encode m)) (encode m)) ≡ valid m (pick b (length xs) 0)
     go false e = Laws.reads_back m a
@@ -77,7 +77,7 @@ decode-extended xs m a = go (added xs (encode m)) refl
 module _ (xs : List Extension) (f : Frame) (a : AllowedFrame f) where
   pub decodes : decode (extended xs (frame_octets f)) ≡ valid (frame_message f) (count xs f)
   unfolding frame_octets count
-  decodes = decode-extended xs (frame_message f) a
+  decodes = decode_extended xs (frame_message f) a
 
   pub reads : reading_in (extended xs (frame_octets f)) ≡ good f (count xs f)
   unfolding reading_in
@@ -104,40 +104,40 @@ record Opens (c : ℕ) (s : List ℕ) : Type 0 where
   more : List ℕ
   is : s ≡ first ∷ (c ∷ more)
 
-opens-bare : (m : Message) → Opens m.confirmation (encode m)
-opens-bare m = record { first = first_octet false m; more = rest m; is = bare_is m }
+opens_bare : (m : Message) → Opens m.confirmation (encode m)
+opens_bare m = record { first = first_octet false m; more = rest m; is = bare_is m }
 
-opens-follow : (xs : List Extension) (m : Message) → Opens m.confirmation (follow xs (encode m))
-opens-follow [] m = opens-bare m
-opens-follow (x ∷ xs) m = record { first = 128 + first_octet false m; more = rest m ++ extension_octets (x ∷ xs); is = rw (bare_is m) }
+opens_follow : (xs : List Extension) (m : Message) → Opens m.confirmation (follow xs (encode m))
+opens_follow [] m = opens_bare m
+opens_follow (x ∷ xs) m = record { first = 128 + first_octet false m; more = rest m ++ extension_octets (x ∷ xs); is = rw (bare_is m) }
 
 opens : (xs : List Extension) (m : Message) → Opens m.confirmation (extended xs (encode m))
 unfolding extended
 opens xs m = go (added xs (encode m))
   where
     go : (b : Bool) → Opens m.confirmation (pick b (follow xs (encode m)) (encode m))
-    go true = opens-follow xs m
-    go false = opens-bare m
+    go true = opens_follow xs m
+    go false = opens_bare m
 
-opens-frame : (xs : List Extension) (f : Frame) → Opens (frame_message f).confirmation (extended xs (frame_octets f))
+opens_frame : (xs : List Extension) (f : Frame) → Opens (frame_message f).confirmation (extended xs (frame_octets f))
 unfolding frame_octets
-opens-frame xs f = opens xs (frame_message f)
+opens_frame xs f = opens xs (frame_message f)
 
 -- it is a frame, and not nothing
 pub spoken : (xs : List Extension) (f : Frame) → or_nothing (extended xs (frame_octets f)) ≡ some (reading_in (extended xs (frame_octets f)))
-spoken xs f = let o = opens-frame xs f in rw o.is
+spoken xs f = let o = opens_frame xs f in rw o.is
 
 -- whether it is a message
 pub message_is : (xs : List Extension) (m : Msg) → is_message (extended xs (frame_octets (msg m))) ≡ true
 unfolding frame_message msg_message
-message_is xs (plain i r q b) = let o = opens-frame xs (msg (plain i r q b)) in rw o.is
-message_is xs (sure i r q b) = let o = opens-frame xs (msg (sure i r q b)) in rw o.is
+message_is xs (plain i r q b) = let o = opens_frame xs (msg (plain i r q b)) in rw o.is
+message_is xs (sure i r q b) = let o = opens_frame xs (msg (sure i r q b)) in rw o.is
 
 pub note_is_none : (xs : List Extension) (k : Kind) (r : ℕ) (i : Option ℕ) (q : List ℕ) (b : Body) → is_message (extended xs (frame_octets (note k r i q b))) ≡ false
 unfolding frame_message
-note_is_none xs ok r i q b = let o = opens-frame xs (note ok r i q b) in rw o.is
-note_is_none xs not_ok r i q b = let o = opens-frame xs (note not_ok r i q b) in rw o.is
-note_is_none xs unknown r i q b = let o = opens-frame xs (note unknown r i q b) in rw o.is
+note_is_none xs ok r i q b = let o = opens_frame xs (note ok r i q b) in rw o.is
+note_is_none xs not_ok r i q b = let o = opens_frame xs (note not_ok r i q b) in rw o.is
+note_is_none xs unknown r i q b = let o = opens_frame xs (note unknown r i q b) in rw o.is
 
 -- ---- what it names
 

@@ -42,9 +42,9 @@ state_back s (assoc a w t) (in_assoc r l h) = rw (front 8 w)
 
 module _ (s : Setup) (limited : Limited s) (st : State) (w : Within s st) where
   -- what it says to an event
-  pub step-picture : (ev : List ℕ) → step 1024 (picture s st) ev ≡ does s (event_of ev) (drop (frame_from (event_of ev)) ev) st
+  pub step_picture : (ev : List ℕ) → step 1024 (picture s st) ev ≡ does s (event_of ev) (drop (frame_from (event_of ev)) ev) st
   unfolding step
-  step-picture ev = rw (pictures_sound s st limited w, setup_back s st, state_back s st w)
+  step_picture ev = rw (pictures_sound s st limited w, setup_back s st, state_back s st w)
 
   -- the unit that an event leaves
   pub next_picture : (v : State) (os : List Out) → (turn_of (picture s st) (done v os)).unit ≡ picture s v

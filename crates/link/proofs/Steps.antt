@@ -22,7 +22,7 @@ use Rattle.book.specs.Events.{event_of, by_kind, with_terms, terms_in}
 use Rattle.book.specs.Step.{does, step}
 use Rattle.book.proofs.Views.{read_allowed, read_whole}
 use Rattle.pair_laws.specs.Model as M
-use Rattle.pair_laws.proofs.Named.{Suits, SuitsNext, line-named, request_named, end_named, tick_named}
+use Rattle.pair_laws.proofs.Named.{Suits, SuitsNext, line_named, request_named, end_named, tick_named}
 use Rattle.sound_laws.proofs.Within.{Within, Limited, Positive, positive, both_left, both_right}
 use Rattle.sound_laws.proofs.Rules.{Keeps, keeps_request, keeps_end, keeps_tick, keeps_start, keeps_reply, keeps_dat, keeps_fin, keeps_fin_ok, keeps_abort}
 use Rattle.link.specs.Wire.{kind_of, octets}
@@ -31,7 +31,7 @@ use Rattle.link.proofs.Fine.{Heard, faulty, whole, FineOutcome, Named, named, re
 use Rattle.link.proofs.Frames.{added, count, names_message}
 use Rattle.link.proofs.Related.{RelLog, rel_fate}
 use Rattle.link.proofs.Wires.{HeardLine, Wire, wire_lost, wire_fin_ok}
-use Rattle.link.proofs.Pictures.{step-picture}
+use Rattle.link.proofs.Pictures.{step_picture}
 use Rattle.link.proofs.Follows.{RelEnd, rel_end, RelQueue, q_none, q_also, RelWorld, rel_world, is_start, rel_comes, rel_busy, rel_inside, rel_near, rel_purge, rel_update, Known, Near, near, of_near, rel_act, rel_act_there}
 
 -- ---- a line that an end hears
@@ -60,13 +60,13 @@ line_keeps s p lost st h w = keeps_abort s p 1 st
 line_known : (s : Setup) → Limited s → (l : Line) (st : State) → HeardLine l → Within s st → Suits l st → Known s (M.on_line s l st)
 line_known s i l st h w n = record {
   are_fine = line_fine s (named s i) l st h w;
-  are_named = line-named s l st n;
+  are_named = line_named s l st n;
   keeps = line_keeps s (positive s i) l st h w;
 }
 
 module _ (xs : List Extension) {s : Setup} {st : State} {ev : List ℕ} {l : Line} (v : Wire ev l) (n : Suits l st) where
   says : Limited s → Within s st → step 1024 (picture s st) ev ≡ M.on_line s l st
-  says i w = step-picture s i st w ev ∙ v.says s st
+  says i w = step_picture s i st w ev ∙ v.says s st
 
   rel_hear : {W : World} {w : M.World} → Near s st W w → RelWorld (hear xs ev W) (M.hear (count xs) l w)
   unfolding M.hear
@@ -80,19 +80,19 @@ module _ (xs : List Extension) {s : Setup} {st : State} {ev : List ℕ} {l : Lin
       (rel_act_there xs [] v.noted (M.on_line s l st) (line_known s i l st v.allowed w n) (of_near (near i w f b p q)) (near i w f b p q))
 
 -- "If both ends sent 33, each gets 14 accepted in place of the other's 33."
-pub wire-heard : (s : Setup) (st : State) {ev : List ℕ} (l : Line) → Wire ev l → Wire (as_heard (picture s st) ev) (M.as_heard st l)
+pub wire_heard : (s : Setup) (st : State) {ev : List ℕ} (l : Line) → Wire ev l → Wire (as_heard (picture s st) ev) (M.as_heard st l)
 unfolding M.as_heard
-wire-heard s st (start a f) v = rw v.kind v
-wire-heard s st (reply b f) v = rw v.kind v
-wire-heard s st (dat f) v = rw v.kind v
-wire-heard s idle fin v = rw v.kind v
-wire-heard s (single a w t) fin v = rw v.kind v
-wire-heard s (multi a k t) fin v = rw v.kind v
-wire-heard s (ending a w t) fin v = rw v.kind (wire_fin_ok true)
-wire-heard s (assoc a w t) fin v = rw v.kind v
-wire-heard s st (fin_ok b) v = rw v.kind v
-wire-heard s st (cut r) v = rw v.kind v
-wire-heard s st lost v = rw v.kind v
+wire_heard s st (start a f) v = rw v.kind v
+wire_heard s st (reply b f) v = rw v.kind v
+wire_heard s st (dat f) v = rw v.kind v
+wire_heard s idle fin v = rw v.kind v
+wire_heard s (single a w t) fin v = rw v.kind v
+wire_heard s (multi a k t) fin v = rw v.kind v
+wire_heard s (ending a w t) fin v = rw v.kind (wire_fin_ok true)
+wire_heard s (assoc a w t) fin v = rw v.kind v
+wire_heard s st (fin_ok b) v = rw v.kind v
+wire_heard s st (cut r) v = rw v.kind v
+wire_heard s st lost v = rw v.kind v
 
 start_suits : (l : Line) (st : State) → M.is_start l ≡ true → Suits l st
 unfolding M.is_start
@@ -113,7 +113,7 @@ module _ (xs : List Extension) (d : ℕ) {s : Setup} {st : State} {ev : List ℕ
           → RelWorld (pick b (hear_start xs d ev W) (pick c (hear xs (as_heard (near_unit W) ev) W) W))
           (pick b (M.hear_start (count xs) d l w) (pick c (M.hear (count xs) (M.as_heard (M.near_state w) l) w) w))
       go (near i y f b p q) true e c = rel_hear_start xs v (start_suits l st (sym e)) d (near i y f b p q)
-      go (near i y f b p q) false e true = rel_hear xs (wire-heard s st l v) n (near i y f b p q)
+      go (near i y f b p q) false e true = rel_hear xs (wire_heard s st l v) n (near i y f b p q)
       go (near i y f b p q) false e false = of_near (near i y f b p q)
 
 -- the next line toward the near end
@@ -201,9 +201,9 @@ pub data Follows (W : World) (w : M.World) : Type 0 where
 
 -- ---- a request
 
-silent-heard : (A : Log) (a : M.Log) → RelLog A a → RelLog (note_nothing A) (M.silent a)
+silent_heard : (A : Log) (a : M.Log) → RelLog A a → RelLog (note_nothing A) (M.silent a)
 unfolding M.silent
-silent-heard A a r = r
+silent_heard A a r = r
 
 -- a refused request changes nothing
 ask_refused : (xs : List Extension) (new : List ℕ) (b c : Bool) (n : ℕ) (W : World) → ask_with xs new b c (refused n) W ≡ W
@@ -215,9 +215,9 @@ ask_refused xs new false false n W = refl
 rel_ask : (xs : List Extension) (new : List ℕ) (b c : Bool) {s : Setup} {st : State} (o : Outcome) → Known s o → {W : World} {w : M.World} → Near s st W w
     → RelWorld (ask_with xs new b c o W) (M.ask_with (count xs) new b c o w)
 unfolding M.ask_with M.fresh
-rel_ask xs new true c o k r = rel_act xs new silent-heard o k r
+rel_ask xs new true c o k r = rel_act xs new silent_heard o k r
 rel_ask xs new false true o k r = of_near r
-rel_ask xs new false false o k (near i y f b p q) = rel_act_there xs new silent-heard o k (of_near (near i y f b p q)) (near i y f b p q)
+rel_ask xs new false false o k (near i y f b p q) = rel_act_there xs new silent_heard o k (of_near (near i y f b p q)) (near i y f b p q)
 
 heard_of : (f : List ℕ) → ((i : ℕ) → octet f i < 256) → (r : Reading) → reading_in f ≡ r → Heard r
 heard_of f h (bad n) e = faulty
@@ -275,7 +275,7 @@ module _ (xs : List Extension) (ev : List ℕ) (isSmall : (i : ℕ) → octet ev
       → Follows (ask_near xs ev W) w
   unfolding ask_near does M.do_near M.ask_near
   rel_request c a r k e {s} {st} (near {d} {k = h} {F} {f} {acc} {ans} {B} {b} {O} {I} {p} {i = q} {next} i y g t u v) =
-      rw (k, low_kind c, step-picture s i st y ev, e, rel_busy s st, rel_comes v) (go (vet c (reading_in (drop 4 ev))) refl)
+      rw (k, low_kind c, step_picture s i st y ev, e, rel_busy s st, rel_comes v) (go (vet c (reading_in (drop 4 ev))) refl)
     where
       W : World
       W = world (at (picture s st) d h F acc ans) B O I next
@@ -311,28 +311,28 @@ module _ (xs : List Extension) (ev : List ℕ) {s : Setup} {st : State} where
   rel_end_asked : kind_of ev ≡ 3 → event_of ev ≡ Ending → {W : World} {w : M.World} → Near s st W w → Follows (ask_near xs ev W) w
   unfolding ask_near does M.do_near M.end_near
   rel_end_asked k e (near {d} {k = h} {F} {f} {acc} {ans} {B} {b} {O} {I} {p} {i = q} {next} i y g t u v) =
-      rw (k, step-picture s i st y ev, e)
+      rw (k, step_picture s i st y ev, e)
       (goes_on M.end
       (subst (λ x. RelWorld (act [] [] note_nothing (on_end st) (world (at (picture s st) d h F acc ans) B O I next)) (M.act x [] M.silent (on_end st) (M.world (M.at s st d h f acc ans) b p q next)))
       count_none
-      (rel_act [] [] silent-heard (on_end st)
+      (rel_act [] [] silent_heard (on_end st)
       (record { are_fine = end_fine st; are_named = end_named st; keeps = keeps_end s (positive s i) st y }) (near i y g t u v))))
 
   rel_ticked : kind_of ev ≡ 4 → event_of ev ≡ Tick → {W : World} {w : M.World} → Near s st W w → Follows (ask_near xs ev W) w
   unfolding ask_near does M.do_near M.tick_near
   rel_ticked k e (near {d} {k = h} {F} {f} {acc} {ans} {B} {b} {O} {I} {p} {i = q} {next} i y g t u v) =
-      rw (k, step-picture s i st y ev, e)
+      rw (k, step_picture s i st y ev, e)
       (goes_on M.tick
       (subst (λ x. RelWorld (act [] [] note_nothing (on_tick s (late s st) st) (world (at (picture s st) d h F acc ans) B O I next))
       (M.act x [] M.silent (on_tick s (late s st) st) (M.world (M.at s st d h f acc ans) b p q next)))
       count_none
-      (rel_act [] [] silent-heard (on_tick s (late s st) st)
+      (rel_act [] [] silent_heard (on_tick s (late s st) st)
       (record { are_fine = tick_fine s (named s i) (late s st) st; are_named = tick_named s (late s st) st; keeps = keeps_tick s (positive s i) st y }) (near i y g t u v))))
 
   rel_nonsense : event_of ev ≡ Malformed → {W : World} {w : M.World} → Near s st W w → Follows (ask_near xs ev W) w
   unfolding ask_near does act
   rel_nonsense e (near {d} {k = h} {F} {f} {acc} {ans} {B} {b} {O} {I} {p} {i = q} {next} i y g t u v) =
-      rw (step-picture s i st y ev, e, ask_refused xs (asks_for ev) (busy (picture s st)) (start_comes I) 8 (world (at (picture s st) d h F acc ans) B O I next))
+      rw (step_picture s i st y ev, e, ask_refused xs (asks_for ev) (busy (picture s st)) (start_comes I) 8 (world (at (picture s st) d h F acc ans) B O I next))
       (stays (rel_same (leb (kind_of ev) 2) (of_near (near i y g t u v))))
     where
       rel_same : (b : Bool) {W : World} {w : M.World} → RelWorld W w → RelWorld (pick b W W) w

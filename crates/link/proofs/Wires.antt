@@ -78,9 +78,9 @@ data_event h = rw (ne_eqb (suc (length h)) 0 (λ e. omega arith))
 
 -- ---- the lines
 
-pub wire-cut : (r : ℕ) → Wire (0x15 ∷ []) (cut r)
+pub wire_cut : (r : ℕ) → Wire (0x15 ∷ []) (cut r)
 unfolding event_of does M.on_line note_heard M.log_heard
-wire-cut r = record { kind = refl; says = λ s st. refl; noted = λ A a q. rel_fate q (λ f. broken); allowed = tt }
+wire_cut r = record { kind = refl; says = λ s st. refl; noted = λ A a q. rel_fate q (λ f. broken); allowed = tt }
 
 pub wire_lost : Wire (0x16 ∷ []) lost
 unfolding event_of does M.on_line note_heard M.log_heard

@@ -178,7 +178,7 @@ pub record Examples : Type 0 where
   pub no_crossing : after ((near, ask_02 0 (sheet 7)) ∷ (far, ask_02 0 (sheet 9)) ∷ []) ≡ after ((near, ask_02 0 (sheet 7)) ∷ [])
 
 pub examples : Examples
-unfolding in_order answer_to_next Model.blank Model.ask Model.grant Model.turn Model.log_fate Model.log_handed Model.log_read Model.log_given Model.log_okay Model.log_sent Model.log_out Model.log_all Model.log_heard Model.silent Model.answers swap Model.update Model.busy Model.inside Model.near_inside Model.far_inside Model.near_state Model.hang Model.with_fields Model.extended Model.post Model.purge Model.sever Model.carry Model.emit Model.act Model.act_there Model.fresh Model.is_start Model.start_comes Model.ask_with Model.asked_ids Model.ask_near Model.end_near Model.tick_near Model.on_line Model.as_heard Model.hear Model.join Model.hear_start Model.reach Model.deliver_near Model.warn Model.break_end Model.break_both Model.break_near Model.do_near Model.do_at run Model.new_end beginning Book.same_terms Book.settled Book.ids_of Book.waiting_of Book.full Book.without_in Book.without Book.body_of Book.ack-body ack Book.local Book.unsure Book.refuse_all Book.with_seen Book.fall Book.quiet_fall Book.vet Book.bar_confirmed Book.bar Book.on_single Book.on_multi Book.on_shot Book.on_vetted Book.on_request Book.on_end Book.late Book.on_tick Book.greet Book.first_contact Book.on_start Book.result_of Book.single_result Book.answered-by Book.begun Book.on_reply Book.noted Book.left_waiting Book.on_dat Book.on_fin Book.on_fin_ok Book.on_abort
+unfolding in_order answer_to_next Model.blank Model.ask Model.grant Model.turn Model.log_fate Model.log_handed Model.log_read Model.log_given Model.log_okay Model.log_sent Model.log_out Model.log_all Model.log_heard Model.silent Model.answers swap Model.update Model.busy Model.inside Model.near_inside Model.far_inside Model.near_state Model.hang Model.with_fields Model.extended Model.post Model.purge Model.sever Model.carry Model.emit Model.act Model.act_there Model.fresh Model.is_start Model.start_comes Model.ask_with Model.asked_ids Model.ask_near Model.end_near Model.tick_near Model.on_line Model.as_heard Model.hear Model.join Model.hear_start Model.reach Model.deliver_near Model.warn Model.break_end Model.break_both Model.break_near Model.do_near Model.do_at run Model.new_end beginning Book.same_terms Book.settled Book.ids_of Book.waiting_of Book.full Book.without_in Book.without Book.body_of Book.ack_body ack Book.local Book.unsure Book.refuse_all Book.with_seen Book.fall Book.quiet_fall Book.vet Book.bar_confirmed Book.bar Book.on_single Book.on_multi Book.on_shot Book.on_vetted Book.on_request Book.on_end Book.late Book.on_tick Book.greet Book.first_contact Book.on_start Book.result_of Book.single_result Book.answered_by Book.begun Book.on_reply Book.noted Book.left_waiting Book.on_dat Book.on_fin Book.on_fin_ok Book.on_abort
 examples = record {
   goes-both-ways = refl;
   ends_in_order = refl;

@@ -58,8 +58,8 @@ dats_snoc d [] f r = refl
 dats_snoc d (g ∷ fs) f r = ap (λ q. (d, dat (wire g)) ∷ q) (dats_snoc d fs f r)
 
 -- A message sent after some others.
-pub dats-post : (d : ℕ) (fs : List Sent) (f : Sent) → dats d fs [] ++ ((d, dat (wire f)) ∷ []) ≡ dats d (fs ++ (f ∷ [])) []
-dats-post d fs f = dats-append d fs [] _ ∙ sym (dats_snoc d fs f [])
+pub dats_post : (d : ℕ) (fs : List Sent) (f : Sent) → dats d fs [] ++ ((d, dat (wire f)) ∷ []) ≡ dats d (fs ++ (f ∷ [])) []
+dats_post d fs f = dats-append d fs [] _ ∙ sym (dats_snoc d fs f [])
 
 pub purge_own : (d : ℕ) (l : Line) (q : Queue) → purge d ((d, l) ∷ q) ≡ purge d q
 unfolding purge
@@ -69,10 +69,10 @@ pub purge_other : (d n : ℕ) (l : Line) (q : Queue) → (n ≡ d → ⊥) → p
 unfolding purge
 purge_other d n l q h = rw (eqb_no n d h)
 
-pub purge-dats : (d : ℕ) (fs : List Sent) (q : Queue) → purge d (dats d fs q) ≡ purge d q
+pub purge_dats : (d : ℕ) (fs : List Sent) (q : Queue) → purge d (dats d fs q) ≡ purge d q
 unfolding dats
-purge-dats d [] q = refl
-purge-dats d (f ∷ fs) q = purge_own d (dat (wire f)) (dats d fs q) ∙ purge-dats d fs q
+purge_dats d [] q = refl
+purge_dats d (f ∷ fs) q = purge_own d (dat (wire f)) (dats d fs q) ∙ purge_dats d fs q
 
 -- What the answers `uncertain` do: nothing to a log or the link.
 pub log_unsure : (s : Setup) (k : Bool) (w : List ℕ) (os : List Out) (l : Log) → log_all (unsure s k w os) l ≡ log_all os l
@@ -80,15 +80,15 @@ unfolding log_all log_out unsure
 log_unsure s k [] os l = refl
 log_unsure s k (i ∷ w) os l = log_unsure s k w os l
 
-pub answers-unsure : (s : Setup) (k : Bool) (w : List ℕ) (os : List Out) → answers (unsure s k w os) ≡ w ++ answers os
+pub answers_unsure : (s : Setup) (k : Bool) (w : List ℕ) (os : List Out) → answers (unsure s k w os) ≡ w ++ answers os
 unfolding answers unsure
-answers-unsure s k [] os = refl
-answers-unsure s k (i ∷ w) os = ap (λ v. i ∷ v) (answers-unsure s k w os)
+answers_unsure s k [] os = refl
+answers_unsure s k (i ∷ w) os = ap (λ v. i ∷ v) (answers_unsure s k w os)
 
-pub emit-unsure : (x : Fields) (d : ℕ) (s : Setup) (k : Bool) (w : List ℕ) (os : List Out) (v : World) → emit x d (unsure s k w os) v ≡ emit x d os v
+pub emit_unsure : (x : Fields) (d : ℕ) (s : Setup) (k : Bool) (w : List ℕ) (os : List Out) (v : World) → emit x d (unsure s k w os) v ≡ emit x d os v
 unfolding emit unsure
-emit-unsure x d s k [] os v = refl
-emit-unsure x d s k (i ∷ w) os v = emit-unsure x d s k w os v
+emit_unsure x d s k [] os v = refl
+emit_unsure x d s k (i ∷ w) os v = emit_unsure x d s k w os v
 
 -- What line 25 does: nothing too.
 pub log_seen : (e : ℕ) (os : List Out) (l : Log) → log_all (with_seen e os) l ≡ log_all os l

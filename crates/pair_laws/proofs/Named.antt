@@ -4,7 +4,7 @@ use mathlib.Core.Bool.{Bool, true, false}
 use mathlib.Core.Option.{Option, none, some}
 use mathlib.Core.List.{List, [], ◌∷◌}
 use Prim.Native.Nat.{ℕ, zero, suc}
-use Rattle.book.specs.Book.{Body, Msg, plain, sure, Kind, Frame, msg, note, Reading, bad, good, Line, start, reply, dat, fin, fin_ok, cut, lost, Result, Out, give, answer, ended, gone, seen, send, State, idle, single, multi, ending, assoc, Setup, Outcome, refused, done, body_of, ids_of, without, local, unsure, refuse_all, with_seen, fall, quiet_fall, vet, bar, on_single, on_multi, on_shot, on_vetted, on_request, on_end, on_tick, greet, first_contact, on_start, answered-by, begun, on_reply, noted, on_dat, on_fin, on_fin_ok, on_abort}
+use Rattle.book.specs.Book.{Body, Msg, plain, sure, Kind, Frame, msg, note, Reading, bad, good, Line, start, reply, dat, fin, fin_ok, cut, lost, Result, Out, give, answer, ended, gone, seen, send, State, idle, single, multi, ending, assoc, Setup, Outcome, refused, done, body_of, ids_of, without, local, unsure, refuse_all, with_seen, fall, quiet_fall, vet, bar, on_single, on_multi, on_shot, on_vetted, on_request, on_end, on_tick, greet, first_contact, on_start, answered_by, begun, on_reply, noted, on_dat, on_fin, on_fin_ok, on_abort}
 use Rattle.book.specs.declared.Terms.{Terms}
 use Rattle.pair_laws.specs.Model.{World, world, at, as_heard, on_line}
 use Rattle.pair_laws.proofs.Facts.{mes, confirm, wire, dats}
@@ -33,23 +33,23 @@ pub data NamedOutcome : Outcome → Type 0 where
 one : {st : State} {o : Out} → NamedOut o → NamedOutcome (done st (o ∷ []))
 one n = n_done (n_also n n_none)
 
-unsure-named : (s : Setup) (m : Bool) (w : List ℕ) {rest : List Out} → AllNamed rest → AllNamed (unsure s m w rest)
+unsure_named : (s : Setup) (m : Bool) (w : List ℕ) {rest : List Out} → AllNamed rest → AllNamed (unsure s m w rest)
 unfolding unsure local
-unsure-named s m [] r = r
-unsure-named s m (i ∷ w) r = n_also (n_answer names) (unsure-named s m w r)
+unsure_named s m [] r = r
+unsure_named s m (i ∷ w) r = n_also (n_answer names) (unsure_named s m w r)
 
 refuse_named : (s : Setup) (w : List ℕ) {rest : List Out} → AllNamed rest → AllNamed (refuse_all s w rest)
 unfolding refuse_all local
 refuse_named s [] r = r
 refuse_named s (i ∷ w) r = n_also (n_answer names) (refuse_named s w r)
 
-fall-named : (s : Setup) (m : Bool) (w : List ℕ) (r : ℕ) → NamedOutcome (fall s m w r)
+fall_named : (s : Setup) (m : Bool) (w : List ℕ) (r : ℕ) → NamedOutcome (fall s m w r)
 unfolding fall
-fall-named s m w r = n_done (n_also n_send (unsure-named s m w (n_also n_gone n_none)))
+fall_named s m w r = n_done (n_also n_send (unsure_named s m w (n_also n_gone n_none)))
 
 quiet_named : (s : Setup) (m : Bool) (w : List ℕ) (r : ℕ) → NamedOutcome (quiet_fall s m w r)
 unfolding quiet_fall
-quiet_named s m w r = n_done (unsure-named s m w (n_also n_gone n_none))
+quiet_named s m w r = n_done (unsure_named s m w (n_also n_gone n_none))
 
 seen_named : (e : ℕ) {os : List Out} → AllNamed os → AllNamed (with_seen e os)
 unfolding with_seen
@@ -58,14 +58,14 @@ seen_named (suc e) r = n_also n_seen r
 
 -- ---- a user's events
 
-shot-named : (b : Bool) (a : Terms) (m : Msg) (st : State) → NamedOutcome (on_shot b a m st)
+shot_named : (b : Bool) (a : Terms) (m : Msg) (st : State) → NamedOutcome (on_shot b a m st)
 unfolding on_shot on_single on_multi
-shot-named false a m idle = one n_send
-shot-named false a m (single T w t) = n_refused
-shot-named false a m (multi T k t) = n_refused
-shot-named false a m (ending T w t) = n_refused
-shot-named false a m (assoc T w t) = n_refused
-shot-named true a m st = multi_named (bar a m st) st
+shot_named false a m idle = one n_send
+shot_named false a m (single T w t) = n_refused
+shot_named false a m (multi T k t) = n_refused
+shot_named false a m (ending T w t) = n_refused
+shot_named false a m (assoc T w t) = n_refused
+shot_named true a m st = multi_named (bar a m st) st
   where
     multi_named : (b : Option ℕ) (st : State) → NamedOutcome (on_multi b a m st)
     multi_named b idle = one n_send
@@ -81,7 +81,7 @@ request_named c a r st = go (vet c r)
   where
     go : (o : Option Msg) → NamedOutcome (on_vetted a o st)
     go none = n_refused
-    go (some m) = shot-named (body_of m).maintained a m st
+    go (some m) = shot_named (body_of m).maintained a m st
 
 pub end_named : (st : State) → NamedOutcome (on_end st)
 unfolding on_end
@@ -94,51 +94,51 @@ end_named (assoc T w t) = one n_send
 pub tick_named : (s : Setup) (b : Bool) (st : State) → NamedOutcome (on_tick s b st)
 unfolding on_tick
 tick_named s b idle = n_done n_none
-tick_named s true (single T w t) = fall-named s false w 2
+tick_named s true (single T w t) = fall_named s false w 2
 tick_named s false (single T w t) = n_done n_none
-tick_named s true (multi T k t) = fall-named s true (ids_of k) 2
+tick_named s true (multi T k t) = fall_named s true (ids_of k) 2
 tick_named s false (multi T k t) = n_done n_none
-tick_named s true (ending T w t) = fall-named s true w 2
+tick_named s true (ending T w t) = fall_named s true w 2
 tick_named s false (ending T w t) = n_done n_none
 tick_named s true (assoc T w t) = one n_send
 tick_named s false (assoc T w t) = n_done n_none
 
 -- ---- a line
 
-greet-named : (s : Setup) (b : Bool) (a : Terms) (e : ℕ) (m : Msg) → NamedOutcome (greet s b a e m)
+greet_named : (s : Setup) (b : Bool) (a : Terms) (e : ℕ) (m : Msg) → NamedOutcome (greet s b a e m)
 unfolding greet
-greet-named s true a e m = n_done (seen_named e (n_also n_send n_none))
-greet-named s false a e (plain i r q b) = n_done (seen_named e (n_also n_give (n_also n_send n_none)))
-greet-named s false a e (sure i r q b) = n_done (seen_named e (n_also n_give (n_also n_send n_none)))
+greet_named s true a e m = n_done (seen_named e (n_also n_send n_none))
+greet_named s false a e (plain i r q b) = n_done (seen_named e (n_also n_give (n_also n_send n_none)))
+greet_named s false a e (sure i r q b) = n_done (seen_named e (n_also n_give (n_also n_send n_none)))
 
 start_named : (s : Setup) (a : Terms) (h : Option Reading) (st : State) → NamedOutcome (on_start s a h st)
 unfolding on_start first_contact
 start_named s a none idle = one n_send
 start_named s a (some (bad n)) idle = one n_send
-start_named s a (some (good (msg m) e)) idle = greet-named s (body_of m).maintained a e m
+start_named s a (some (good (msg m) e)) idle = greet_named s (body_of m).maintained a e m
 start_named s a (some (good (note k r i q b) e)) idle = n_done (seen_named e (n_also n_send n_none))
 start_named s a f (single T w t) = n_refused
 start_named s a f (multi T k t) = n_refused
 start_named s a f (ending T w t) = n_refused
 start_named s a f (assoc T w t) = n_refused
 
-noted-named : (e : ℕ) (k : Kind) (r : ℕ) (i : Option ℕ) (q : List ℕ) (b : Body) (o : Option (List ℕ)) → AllNamed (noted e k r (note k r i q b) o)
+noted_named : (e : ℕ) (k : Kind) (r : ℕ) (i : Option ℕ) (q : List ℕ) (b : Body) (o : Option (List ℕ)) → AllNamed (noted e k r (note k r i q b) o)
 unfolding noted
-noted-named e k r i q b none = seen_named e n_none
-noted-named e k r i q b (some v) = seen_named e (n_also (n_answer names) n_none)
+noted_named e k r i q b none = seen_named e n_none
+noted_named e k r i q b (some v) = seen_named e (n_also (n_answer names) n_none)
 
 dat_named : (s : Setup) (r : Reading) (st : State) → NamedOutcome (on_dat s r st)
 unfolding on_dat
 dat_named s f idle = n_refused
 dat_named s f (single T w t) = n_refused
 dat_named s f (multi T k t) = n_refused
-dat_named s (bad n) (ending T w t) = fall-named s true w n
+dat_named s (bad n) (ending T w t) = fall_named s true w n
 dat_named s (good (msg m) e) (ending T w t) = n_done (seen_named e (n_also n_give n_none))
-dat_named s (good (note k r i q b) e) (ending T w t) = n_done (noted-named e k r i q b (without r w))
-dat_named s (bad n) (assoc T w t) = fall-named s true w n
+dat_named s (good (note k r i q b) e) (ending T w t) = n_done (noted_named e k r i q b (without r w))
+dat_named s (bad n) (assoc T w t) = fall_named s true w n
 dat_named s (good (msg (plain i r q b)) e) (assoc T w t) = n_done (seen_named e (n_also n_give n_none))
 dat_named s (good (msg (sure i r q b)) e) (assoc T w t) = n_done (seen_named e (n_also n_give (n_also n_send n_none)))
-dat_named s (good (note k r i q b) e) (assoc T w t) = n_done (noted-named e k r i q b (without r w))
+dat_named s (good (note k r i q b) e) (assoc T w t) = n_done (noted_named e k r i q b (without r w))
 
 fin_named : (s : Setup) (st : State) → NamedOutcome (on_fin s st)
 unfolding on_fin
@@ -146,7 +146,7 @@ fin_named s idle = n_refused
 fin_named s (single T w t) = n_refused
 fin_named s (multi T k t) = n_refused
 fin_named s (ending T w t) = n_refused
-fin_named s (assoc T w t) = n_done (n_also n_send (unsure-named s true w (n_also n_ended n_none)))
+fin_named s (assoc T w t) = n_done (n_also n_send (unsure_named s true w (n_also n_ended n_none)))
 
 fin_ok_named : (s : Setup) (b : Bool) (st : State) → NamedOutcome (on_fin_ok s b st)
 unfolding on_fin_ok
@@ -154,7 +154,7 @@ fin_ok_named s b idle = n_refused
 fin_ok_named s b (single T w t) = n_refused
 fin_ok_named s b (multi T k t) = n_refused
 fin_ok_named s b (assoc T w t) = n_refused
-fin_ok_named s true (ending T w t) = n_done (unsure-named s true w n_none)
+fin_ok_named s true (ending T w t) = n_done (unsure_named s true w n_none)
 fin_ok_named s false (ending T w t) = n_done n_none
 
 abort_named : (s : Setup) (r : ℕ) (st : State) → NamedOutcome (on_abort s r st)
@@ -172,12 +172,12 @@ NamesHeld (i ∷ w) none = Unit {0}
 NamesHeld (i ∷ w) (some (bad n)) = Unit {0}
 NamesHeld (i ∷ w) (some (good f e)) = Names f i
 
-answered-named : (s : Setup) (w : List ℕ) (h : Option Reading) → NamesHeld w h → AllNamed (answered-by s w h)
-unfolding answered-by local
-answered-named s [] h n = n_none
-answered-named s (i ∷ w) none n = n_also (n_answer names) n_none
-answered-named s (i ∷ w) (some (bad k)) n = n_also (n_answer names) n_none
-answered-named s (i ∷ w) (some (good f e)) n = seen_named e (n_also (n_answer n) n_none)
+answered_named : (s : Setup) (w : List ℕ) (h : Option Reading) → NamesHeld w h → AllNamed (answered_by s w h)
+unfolding answered_by local
+answered_named s [] h n = n_none
+answered_named s (i ∷ w) none n = n_also (n_answer names) n_none
+answered_named s (i ∷ w) (some (bad k)) n = n_also (n_answer names) n_none
+answered_named s (i ∷ w) (some (good f e)) n = seen_named e (n_also (n_answer n) n_none)
 
 -- only a rejecting reply to a single-shot transfer has to name what it answers
 abbrev pub SuitsReply : State → Option Reading → Type 0
@@ -200,24 +200,24 @@ Suits lost st = Unit {0}
 reply_named : (s : Setup) (b : Bool) (h : Option Reading) (st : State) → Suits (reply b h) st → NamedOutcome (on_reply s b h st)
 unfolding on_reply begun
 reply_named s b h idle n = n_refused
-reply_named s true h (single T w t) n = fall-named s false w 10
-reply_named s false h (single T w t) n = n_done (answered-named s w h n)
+reply_named s true h (single T w t) n = fall_named s false w 10
+reply_named s false h (single T w t) n = n_done (answered_named s w h n)
 reply_named s true none (multi T k t) n = one n_send
-reply_named s true (some f) (multi T k t) n = fall-named s true (ids_of k) 10
+reply_named s true (some f) (multi T k t) n = fall_named s true (ids_of k) 10
 reply_named s false h (multi T k t) n = n_done (refuse_named s (ids_of k) (n_also n_gone n_none))
 reply_named s b h (ending T w t) n = n_refused
 reply_named s b h (assoc T w t) n = n_refused
 
-pub line-named : (s : Setup) (l : Line) (st : State) → Suits l st → NamedOutcome (on_line s l st)
+pub line_named : (s : Setup) (l : Line) (st : State) → Suits l st → NamedOutcome (on_line s l st)
 unfolding on_line
-line-named s (start a f) st n = start_named s a f st
-line-named s (reply true f) st n = reply_named s true f st n
-line-named s (reply false f) st n = reply_named s false f st n
-line-named s (dat f) st n = dat_named s f st
-line-named s fin st n = fin_named s st
-line-named s (fin_ok a) st n = fin_ok_named s a st
-line-named s (cut r) st n = abort_named s 0 st
-line-named s lost st n = abort_named s 1 st
+line_named s (start a f) st n = start_named s a f st
+line_named s (reply true f) st n = reply_named s true f st n
+line_named s (reply false f) st n = reply_named s false f st n
+line_named s (dat f) st n = dat_named s f st
+line_named s fin st n = fin_named s st
+line_named s (fin_ok a) st n = fin_ok_named s a st
+line_named s (cut r) st n = abort_named s 0 st
+line_named s lost st n = abort_named s 1 st
 
 -- ---- the next line toward an end suits it
 

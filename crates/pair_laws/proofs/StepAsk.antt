@@ -11,7 +11,7 @@ use Rattle.book.specs.Book.{good, body_of, settled, Msg, msg, start, reply, Stat
 use Rattle.book.specs.declared.Terms.{Terms}
 use Rattle.pair_laws.specs.Model.{Fields, Log, blank, log_handed, log_sent, log_out, log_all, answers, Queue, at, World, world, update, busy, post, carry, emit, act, silent, fresh, is_start, start_comes, ask_with, act_there, extended, with_fields, log_read}
 use Rattle.pair_laws.specs.Statement.{Good, ids}
-use Rattle.pair_laws.proofs.Facts.{Sent, mes, wire, dats-post}
+use Rattle.pair_laws.proofs.Facts.{Sent, mes, wire, dats_post}
 use Rattle.pair_laws.proofs.Flow.{past_more, flow_more, flow_add_msg}
 use Rattle.pair_laws.proofs.Inv.{Owes, up, down, in_single, in_multi, in_ending, in_assoc, Books, Talk, Severed, called_log, Behind, rested, turning, closing, severed, resting, calling_single, calling_multi, stranded_single, stranded_multi, Inv, talking, dead, free, free', opening, opening', tail}
 use Rattle.pair_laws.proofs.Close.{talk_flip, books_flip, good_flip, good_all, good_blank, not_going}
@@ -95,7 +95,7 @@ unfolding ask_at shot ask_with act_there busy extended with_fields on_single on_
 inv_ask c false x o m sh (talking up b f e v k p q) = talking up b f e v k p q
 inv_ask (some n) true x o m sh (talking up b f e v k p q) = talking up b f e v k p q
 inv_ask none true x o m sh (talking {d = d} {qa = qa} {qb = qb} up b f e v k p q) =
-    make_talking _ k (qa ++ (mes m (x (msg m)) ∷ [])) qb up b f e (sending m (x (msg m)) v) (more_owed m p) q (dats-post d qa _) refl
+    make_talking _ k (qa ++ (mes m (x (msg m)) ∷ [])) qb up b f e (sending m (x (msg m)) v) (more_owed m p) q (dats_post d qa _) refl
 inv_ask c false x o m sh (talking down b f e v k p q) = talking down b f e v k p q
 inv_ask c true x o m sh (talking down b f e v k p q) = talking down b f e v k p q
 inv_ask c false x o m sh (dead in_single b f e v k p q) = dead in_single b f e v k p q
@@ -152,6 +152,6 @@ inv_ask c false x o m sh (opening' up b v k p q) = opening' up b v k p q
 inv_ask (some n) true x o m sh (opening' up b v k p q) = opening' up b v k p q
 inv_ask none true x o m sh (opening' {d = d} {qb = qb} up b v k p q) =
     make_opening' _ (books_flip k) (qb ++ (mes m (x (msg m)) ∷ [])) up b (talk_flip (sending m (x (msg m)) (talk_flip v))) (more_owed m q) p
-    (ap (λ z. (d, reply true none) ∷ z) (dats-post d qb _))
+    (ap (λ z. (d, reply true none) ∷ z) (dats_post d qb _))
 inv_ask c false x o m sh (opening' down b v k p q) = opening' down b v k p q
 inv_ask c true x o m sh (opening' down b v k p q) = opening' down b v k p q

@@ -146,24 +146,24 @@ ahead_back (calling_multi p q ne lt) = refl
 ahead_back {d} {e} (stranded_single c v ne lt) = purge_other d e _ [] ne
 ahead_back {d} {e} (stranded_multi c v ne lt) = purge_other d e _ [] ne
 
-dats-purge : (d e : ℕ) (q : List Sent) (r : Queue) → (d ≡ e → ⊥) → purge e (dats d q r) ≡ dats d q (purge e r)
+dats_purge : (d e : ℕ) (q : List Sent) (r : Queue) → (d ≡ e → ⊥) → purge e (dats d q r) ≡ dats d q (purge e r)
 unfolding dats
-dats-purge d e [] r ne = refl
-dats-purge d e (f ∷ q) r ne = purge_other e d (dat (wire f)) (dats d q r) ne ∙ ap (λ z. (d, dat (wire f)) ∷ z) (dats-purge d e q r ne)
+dats_purge d e [] r ne = refl
+dats_purge d e (f ∷ q) r ne = purge_other e d (dat (wire f)) (dats d q r) ne ∙ ap (λ z. (d, dat (wire f)) ∷ z) (dats_purge d e q r ne)
 
 pub behind_purge : {d : ℕ} {a b : Log} {u : State} {h : Bool} {cl : Queue} (e : ℕ) → (d ≡ e → ⊥) → Behind d a b u h cl → (st : Queue) →
     purge e (cl ++ st) ≡ cl ++ purge e st
 behind_purge e ne (rested g) st = refl
 behind_purge {d} e ne (turning r ea eb) st = purge_other e d _ st ne
 behind_purge {d} e ne (closing {q = q} {l = l} x f r y z) st =
-    ap (purge e) (dats-append d q ((d, l) ∷ []) st) ∙ dats-purge d e q ((d, l) ∷ st) ne ∙ ap (dats d q) (purge_other e d l st ne) ∙ sym
+    ap (purge e) (dats-append d q ((d, l) ∷ []) st) ∙ dats_purge d e q ((d, l) ∷ st) ne ∙ ap (dats d q) (purge_other e d l st ne) ∙ sym
     (dats-append d q ((d, l) ∷ []) (purge e st))
 behind_purge {d} e ne (severed b c v) st = purge_other e d _ st ne
 
-pub purge-tail : (d : ℕ) (e : Bool) → purge d (tail d e) ≡ []
+pub purge_tail : (d : ℕ) (e : Bool) → purge d (tail d e) ≡ []
 unfolding tail purge
-purge-tail d true = purge_own d fin []
-purge-tail d false = refl
+purge_tail d true = purge_own d fin []
+purge_tail d false = refl
 
 -- Cutting.
 pub sever_talk : {a b : Log} {wa wb : List ℕ} {ea eb : Bool} {qa qb : List Sent} {una unb : List ℕ} → Talk a b wa wb ea eb qa qb una unb →

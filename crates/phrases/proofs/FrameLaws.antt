@@ -75,17 +75,17 @@ unfolding fault_words
 fault_said f e = rw e
 
 module _ (s : List ℕ) {r : Reading} (e : r ≡ reading_of s) where
-  pub frame-whole : {h : Header} {n : ℕ} → r ≡ Whole h n → message_words s h n ≡ frame_words s
+  pub frame_whole : {h : Header} {n : ℕ} → r ≡ Whole h n → message_words s h n ≡ frame_words s
   unfolding frame_words
-  frame-whole q = rw (← e, q)
+  frame_whole q = rw (← e, q)
 
   pub frame_faulty : {f : Fault} → r ≡ Faulty f → fault_words f ≡ frame_words s
   unfolding frame_words
   frame_faulty q = rw (← e, q)
 
-  pub answered-whole : {h : Header} {n : ℕ} → r ≡ Whole h n → numbered (spelled " of message ") (two_octets (held_at s h.reference)) ≡ answered_words s
+  pub answered_whole : {h : Header} {n : ℕ} → r ≡ Whole h n → numbered (spelled " of message ") (two_octets (held_at s h.reference)) ≡ answered_words s
   unfolding answered_words
-  answered-whole q = rw (← e, q)
+  answered_whole q = rw (← e, q)
 
   pub answered_faulty : {f : Fault} (b : List ℕ) (i : ℕ) → r ≡ Faulty f → Put b i (answered_words s) b i
   unfolding answered_words
@@ -95,6 +95,6 @@ pub frame_absent : (s : List ℕ) → length s ≡ 0 → spelled "no frame" ≡ 
 unfolding frame_or_nothing
 frame_absent s h = rw (eq-eqb (length s) 0 h)
 
-pub frame-present : (s : List ℕ) → (length s ≡ 0 → ⊥) → frame_words s ≡ frame_or_nothing s
+pub frame_present : (s : List ℕ) → (length s ≡ 0 → ⊥) → frame_words s ≡ frame_or_nothing s
 unfolding frame_or_nothing
-frame-present s h = rw (ne_eqb (length s) 0 h)
+frame_present s h = rw (ne_eqb (length s) 0 h)

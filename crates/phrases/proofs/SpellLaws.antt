@@ -87,13 +87,13 @@ all_end s i h e = (let g : all_printable (drop i s) ≡ true = rw (drop_of_lengt
 
 -- ---- octets
 
-pub shown-text : (s : List ℕ) {r : Bool} → r ≡ all_printable s → r ≡ true → {b b1 : List ℕ} {i j : ℕ} → Put b i (quote ++ s ++ quote) b1 j → Put b i (shown s) b1 j
+pub shown_text : (s : List ℕ) {r : Bool} → r ≡ all_printable s → r ≡ true → {b b1 : List ℕ} {i j : ℕ} → Put b i (quote ++ s ++ quote) b1 j → Put b i (shown s) b1 j
 unfolding shown
-shown-text s p q w = let e : all_printable s ≡ true = sym p ∙ q in rw e w
+shown_text s p q w = let e : all_printable s ≡ true = sym p ∙ q in rw e w
 
-pub shown-digits : (s : List ℕ) {r : Bool} → r ≡ all_printable s → r ≡ false → {b b1 : List ℕ} {i j : ℕ} → Put b i (spelled "octets " ++ digits_of s) b1 j → Put b i (shown s) b1 j
+pub shown_digits : (s : List ℕ) {r : Bool} → r ≡ all_printable s → r ≡ false → {b b1 : List ℕ} {i j : ℕ} → Put b i (spelled "octets " ++ digits_of s) b1 j → Put b i (shown s) b1 j
 unfolding shown
-shown-digits s p q w = let e : all_printable s ≡ false = sym p ∙ q in rw e w
+shown_digits s p q w = let e : all_printable s ≡ false = sym p ∙ q in rw e w
 
 pub digits_put : {b b1 : List ℕ} {i j : ℕ} (s : List ℕ) → j ≡ i + 2 * length s → b1 ≡ sets b i (digits_of s) → Put b i (digits_of s) b1 j
 digits_put s e h = record { held = h; place = omega (arith, digits_long s) }

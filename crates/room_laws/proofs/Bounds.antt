@@ -8,7 +8,7 @@ use native.Mathlib.Omega.{arith}
 use lib.ListN.{length}
 use Rattle.octets.specs.Choice.{pick}
 use Rattle.book.specs.declared.Terms.{Terms}
-use Rattle.book.specs.Book.{Msg, plain, sure, Kind, unknown, Frame, msg, note, Reading, bad, good, start, reply, dat, fin, fin_ok, cut, uncertain, Out, give, answer, ended, gone, send, State, idle, single, multi, ending, assoc, Setup, Outcome, refused, done, settled, ids_of, waiting_of, without, body_of, ack, local, fall, quiet_fall, vet, bar, on_single, on_multi, on_shot, on_vetted, on_request, on_end, on_tick, greet, first_contact, on_start, result_of, single_result, answered-by, begun, on_reply, noted, on_dat, on_fin, on_fin_ok, on_abort}
+use Rattle.book.specs.Book.{Msg, plain, sure, Kind, unknown, Frame, msg, note, Reading, bad, good, start, reply, dat, fin, fin_ok, cut, uncertain, Out, give, answer, ended, gone, send, State, idle, single, multi, ending, assoc, Setup, Outcome, refused, done, settled, ids_of, waiting_of, without, body_of, ack, local, fall, quiet_fall, vet, bar, on_single, on_multi, on_shot, on_vetted, on_request, on_end, on_tick, greet, first_contact, on_start, result_of, single_result, answered_by, begun, on_reply, noted, on_dat, on_fin, on_fin_ok, on_abort}
 use Rattle.book.specs.View.{msg_octets, frame_octets, frame_message}
 use Rattle.book.specs.Lines.{line_of, laid_out, read_octets, held_octets}
 use Rattle.room_laws.proofs.Widths.{Within, nothing, line, local_short, ack_short, unsure_within, refuse_within, seen_within}
@@ -18,9 +18,9 @@ pub data Fits : Outcome → Type 0 where
   barred : {n : ℕ} → Fits (refused n)
   fits : {st : State} {os : List Out} {n k : ℕ} → Within os n k → n ≤ 1024 → k ≤ 10 → Fits (done st os)
 
-pub fits-pick : (b : Bool) {x y : Outcome} → Fits x → Fits y → Fits (pick b x y)
-fits-pick true f g = f
-fits-pick false f g = g
+pub fits_pick : (b : Bool) {x y : Outcome} → Fits x → Fits y → Fits (pick b x y)
+fits_pick true f g = f
+fits_pick false f g = g
 
 pub fits_done : {o : Outcome} → Fits o → (st : State) (os : List Out) → o ≡ done st os → (length (laid_out os) ≤ 1024) × (length os ≤ 10)
 fits_done barred st os e = let z : ◌≡◌ {A = ℕ} 0 1 = cc in absurd (omega arith)
@@ -72,10 +72,10 @@ module _ (a : Terms) (m : Msg) (h : length (frame_octets (msg m)) ≤ 554) where
   multi_fits (some n) (assoc T w t) = barred
   multi_fits none (assoc T w t) = one (send (dat (good (msg m) 0))) 555 (omega arith) (omega arith)
 
-  shot-fits : (b : Bool) (st : State) → Fits (on_shot b a m st)
+  shot_fits : (b : Bool) (st : State) → Fits (on_shot b a m st)
   unfolding on_shot
-  shot-fits false st = single_fits st
-  shot-fits true st = multi_fits (bar a m st) st
+  shot_fits false st = single_fits st
+  shot_fits true st = multi_fits (bar a m st) st
 
 pub request_fits : (c : Bool) (a : Terms) (r : Reading) (st : State) → length (read_octets r) ≤ 554 → Fits (on_request c a r st)
 unfolding on_request on_vetted vet body_of
@@ -83,8 +83,8 @@ request_fits c a (bad n) st h = barred
 request_fits c a (good f (suc n)) st h = barred
 request_fits c a (good (note k r i q b) zero) st h = barred
 request_fits true a (good (msg (plain i r q b)) zero) st h = barred
-request_fits false a (good (msg (plain i r q b)) zero) st h = shot-fits a (plain i r q b) h b.maintained st
-request_fits true a (good (msg (sure i r q b)) zero) st h = shot-fits a (sure i r q b) h b.maintained st
+request_fits false a (good (msg (plain i r q b)) zero) st h = shot_fits a (plain i r q b) h b.maintained st
+request_fits true a (good (msg (sure i r q b)) zero) st h = shot_fits a (sure i r q b) h b.maintained st
 request_fits false a (good (msg (sure i r q b)) zero) st h = barred
 
 pub end_fits : (st : State) → Fits (on_end st)
@@ -97,9 +97,9 @@ end_fits (assoc T w t) = one (send fin) 1 (omega arith) (omega arith)
 
 module _ (s : Setup) (named : length s.name ≤ 32) where
   -- ---- falls
-  fall-fits : (m : Bool) (w : List ℕ) (r : ℕ) → length w ≤ 8 → Fits (fall s m w r)
+  fall_fits : (m : Bool) (w : List ℕ) (r : ℕ) → length w ≤ 8 → Fits (fall s m w r)
   unfolding fall
-  fall-fits m w r h =
+  fall_fits m w r h =
       fits (line (send (cut r)) 2 (omega arith) (unsure_within s named m w (line (gone r) 2 (omega arith) nothing))) (omega arith) (omega arith)
 
   quiet_fits : (m : Bool) (w : List ℕ) (r : ℕ) → length w ≤ 8 → Fits (quiet_fall s m w r)
@@ -110,23 +110,23 @@ module _ (s : Setup) (named : length s.name ≤ 32) where
   pub tick_fits : (b : Bool) (st : State) → length (waiting_of st) ≤ 8 → Fits (on_tick s b st)
   unfolding on_tick waiting_of
   tick_fits b idle h = quiet
-  tick_fits true (single T w t) h = fall-fits false w 2 h
+  tick_fits true (single T w t) h = fall_fits false w 2 h
   tick_fits false (single T w t) h = quiet
-  tick_fits true (multi T k t) h = fall-fits true (ids_of k) 2 h
+  tick_fits true (multi T k t) h = fall_fits true (ids_of k) 2 h
   tick_fits false (multi T k t) h = quiet
-  tick_fits true (ending T w t) h = fall-fits true w 2 h
+  tick_fits true (ending T w t) h = fall_fits true w 2 h
   tick_fits false (ending T w t) h = quiet
   tick_fits true (assoc T w t) h = one (send fin) 1 (omega arith) (omega arith)
   tick_fits false (assoc T w t) h = quiet
 
   -- ---- 10
-  greet-fits : (b : Bool) (a : Terms) (e : ℕ) (m : Msg) → length (frame_octets (msg m)) ≤ 554 → Fits (greet s b a e m)
+  greet_fits : (b : Bool) (a : Terms) (e : ℕ) (m : Msg) → length (frame_octets (msg m)) ≤ 554 → Fits (greet s b a e m)
   unfolding greet
-  greet-fits true a e m h = fits (seen_within e (line (send (cut 10)) 2 (omega arith) nothing)) (omega arith) (omega arith)
-  greet-fits false a e (plain i r q b) h =
+  greet_fits true a e m h = fits (seen_within e (line (send (cut 10)) 2 (omega arith) nothing)) (omega arith) (omega arith)
+  greet_fits false a e (plain i r q b) h =
       fits (seen_within e (line (give a (plain i r q b)) 558 (give_short a (plain i r q b) h) (line (send (reply false none)) 2 (omega arith) nothing)))
       (omega arith) (omega arith)
-  greet-fits false a e (sure i r q b) h =
+  greet_fits false a e (sure i r q b) h =
       let l = ack_short s named i b in
       fits (seen_within e (line (give a (sure i r q b)) 558 (give_short a (sure i r q b) h)
       (line (send (reply false (some (good (ack s i b) 0)))) 40 (omega arith) nothing)))
@@ -136,7 +136,7 @@ module _ (s : Setup) (named : length s.name ≤ 32) where
   unfolding first_contact
   first_fits a none h = one (send (reply true none)) 2 (omega arith) (omega arith)
   first_fits a (some (bad n)) h = one (send (cut n)) 2 (omega arith) (omega arith)
-  first_fits a (some (good (msg m) e)) h = greet-fits (body_of m).maintained a e m h
+  first_fits a (some (good (msg m) e)) h = greet_fits (body_of m).maintained a e m h
   first_fits a (some (good (note k r i q b) e)) h = fits (seen_within e (line (send (cut 10)) 2 (omega arith) nothing)) (omega arith) (omega arith)
 
   pub start_fits : (a : Terms) (f : Option Reading) (st : State) → length (held_octets f) ≤ 554 → Fits (on_start s a f st)
@@ -148,50 +148,50 @@ module _ (s : Setup) (named : length s.name ≤ 32) where
   start_fits a f (assoc T w t) h = barred
 
   -- ---- 11
-  answered-fits : (w : List ℕ) (f : Option Reading) → length (held_octets f) ≤ 554 → Fits (done idle (answered-by s w f))
-  unfolding answered-by
-  answered-fits [] f h = quiet
-  answered-fits (i ∷ w) none h =
+  answered_fits : (w : List ℕ) (f : Option Reading) → length (held_octets f) ≤ 554 → Fits (done idle (answered_by s w f))
+  unfolding answered_by
+  answered_fits [] f h = quiet
+  answered_fits (i ∷ w) none h =
       let l = local_short s named false unknown i in
       one (answer i uncertain (local s false unknown i)) 40 (omega arith) (omega arith)
-  answered-fits (i ∷ w) (some (bad n)) h =
+  answered_fits (i ∷ w) (some (bad n)) h =
       let l = local_short s named false unknown i in
       one (answer i uncertain (local s false unknown i)) 40 (omega arith) (omega arith)
-  answered-fits (i ∷ w) (some (good f e)) h =
+  answered_fits (i ∷ w) (some (good f e)) h =
       fits (seen_within e (line (answer i (single_result f) f) 556 (omega arith) nothing)) (omega arith) (omega arith)
 
-  begun-fits : (a : Terms) (k : Msg) (f : Option Reading) → length (ids_of k) ≤ 8 → length (msg_octets k) ≤ 554 → Fits (begun s a k f)
+  begun_fits : (a : Terms) (k : Msg) (f : Option Reading) → length (ids_of k) ≤ 8 → length (msg_octets k) ≤ 554 → Fits (begun s a k f)
   unfolding begun frame_octets frame_message msg_octets
-  begun-fits a k none h l = one (send (dat (good (msg k) 0))) 555 (omega arith) (omega arith)
-  begun-fits a k (some f) h l = fall-fits true (ids_of k) 10 h
+  begun_fits a k none h l = one (send (dat (good (msg k) 0))) 555 (omega arith) (omega arith)
+  begun_fits a k (some f) h l = fall_fits true (ids_of k) 10 h
 
   pub reply_fits : (b : Bool) (f : Option Reading) (st : State) → length (waiting_of st) ≤ 8 → length (held_by st) ≤ 554 → length (held_octets f) ≤ 554
       → Fits (on_reply s b f st)
   unfolding on_reply waiting_of
   reply_fits b f idle h l r = barred
-  reply_fits true f (single T w t) h l r = fall-fits false w 10 h
-  reply_fits false f (single T w t) h l r = answered-fits w f r
-  reply_fits true f (multi T k t) h l r = begun-fits T k f h l
+  reply_fits true f (single T w t) h l r = fall_fits false w 10 h
+  reply_fits false f (single T w t) h l r = answered_fits w f r
+  reply_fits true f (multi T k t) h l r = begun_fits T k f h l
   reply_fits false f (multi T k t) h l r = fits (refuse_within s named (ids_of k) (line (gone 3) 2 (omega arith) nothing)) (omega arith) (omega arith)
   reply_fits b f (ending T w t) h l r = barred
   reply_fits b f (assoc T w t) h l r = barred
 
   -- ---- 12
-  noted-fits : (st : State) (e : ℕ) (k : Kind) (r : ℕ) (f : Frame) (v : Option (List ℕ)) → length (frame_octets f) ≤ 554 → Fits (done st (noted e k r f v))
+  noted_fits : (st : State) (e : ℕ) (k : Kind) (r : ℕ) (f : Frame) (v : Option (List ℕ)) → length (frame_octets f) ≤ 554 → Fits (done st (noted e k r f v))
   unfolding noted
-  noted-fits st e k r f none h = fits (seen_within e nothing) (omega arith) (omega arith)
-  noted-fits st e k r f (some v) h = fits (seen_within e (line (answer r (result_of k) f) 556 (omega arith) nothing)) (omega arith) (omega arith)
+  noted_fits st e k r f none h = fits (seen_within e nothing) (omega arith) (omega arith)
+  noted_fits st e k r f (some v) h = fits (seen_within e (line (answer r (result_of k) f) 556 (omega arith) nothing)) (omega arith) (omega arith)
 
   pub data_fits : (f : Reading) (st : State) → length (waiting_of st) ≤ 8 → length (read_octets f) ≤ 554 → Fits (on_dat s f st)
   unfolding on_dat waiting_of
   data_fits f idle h l = barred
   data_fits f (single T w t) h l = barred
   data_fits f (multi T k t) h l = barred
-  data_fits (bad n) (ending T w t) h l = fall-fits true w n h
+  data_fits (bad n) (ending T w t) h l = fall_fits true w n h
   data_fits (good (msg m) e) (ending T w t) h l =
       fits (seen_within e (line (give T m) 558 (give_short T m l) nothing)) (omega arith) (omega arith)
-  data_fits (good (note k r i q b) e) (ending T w t) h l = noted-fits _ e k r (note k r i q b) (without r w) l
-  data_fits (bad n) (assoc T w t) h l = fall-fits true w n h
+  data_fits (good (note k r i q b) e) (ending T w t) h l = noted_fits _ e k r (note k r i q b) (without r w) l
+  data_fits (bad n) (assoc T w t) h l = fall_fits true w n h
   data_fits (good (msg (plain i r q b)) e) (assoc T w t) h l =
       fits (seen_within e (line (give T (plain i r q b)) 558 (give_short T (plain i r q b) l) nothing)) (omega arith) (omega arith)
   data_fits (good (msg (sure i r q b)) e) (assoc T w t) h l =
@@ -199,7 +199,7 @@ module _ (s : Setup) (named : length s.name ≤ 32) where
       fits (seen_within e (line (give T (sure i r q b)) 558 (give_short T (sure i r q b) l)
       (line (send (dat (good (ack s i b) 0))) 39 (omega arith) nothing)))
       (omega arith) (omega arith)
-  data_fits (good (note k r i q b) e) (assoc T w t) h l = noted-fits _ e k r (note k r i q b) (without r w) l
+  data_fits (good (note k r i q b) e) (assoc T w t) h l = noted_fits _ e k r (note k r i q b) (without r w) l
 
   -- ---- 13, 14, 15, 16
   pub fin_fits : (st : State) → length (waiting_of st) ≤ 8 → Fits (on_fin s st)

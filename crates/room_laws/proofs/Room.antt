@@ -22,7 +22,7 @@ use Rattle.book.specs.Step.{or_nothing, does, step}
 use Rattle.book.specs.Ready.{Ready}
 use Rattle.book.proofs.Views.{read_allowed, octets_short}
 use Rattle.state.proofs.Sounds.{ready}
-use Rattle.room_laws.proofs.Bounds.{Fits, barred, fits-pick, fits_done, held_by, request_fits, end_fits, tick_fits, start_fits, reply_fits, data_fits, fin_fits, fin_ok_fits, abort_fits}
+use Rattle.room_laws.proofs.Bounds.{Fits, barred, fits_pick, fits_done, held_by, request_fits, end_fits, tick_fits, start_fits, reply_fits, data_fits, fin_fits, fin_ok_fits, abort_fits}
 
 -- ---- a frame that was read
 
@@ -42,20 +42,20 @@ small_drop n s small i = rw get_or-drop (small (n + i))
 
 -- ---- any event in any state
 
-does-fits : (s : Setup) (e : Event) (f : List ℕ) (st : State) → length s.name ≤ 32 → length (waiting_of st) ≤ 8 → length (held_by st) ≤ 554
+does_fits : (s : Setup) (e : Event) (f : List ℕ) (st : State) → length s.name ≤ 32 → length (waiting_of st) ≤ 8 → length (held_by st) ≤ 554
     → ((i : ℕ) → octet f i < 256) → Fits (does s e f st)
 unfolding does
-does-fits s Malformed f st n w k small = barred
-does-fits s (Transfer c a) f st n w k small = request_fits c a (reading_in f) st (read_short f small)
-does-fits s End f st n w k small = end_fits st
-does-fits s Tick f st n w k small = tick_fits s n (late s st) st w
-does-fits s (StartAsked a) f st n w k small = start_fits s n a (or_nothing f) st (held_short f small)
-does-fits s (StartAnswered b) f st n w k small = reply_fits s n b (or_nothing f) st w k (held_short f small)
-does-fits s Data f st n w k small = data_fits s n (reading_in f) st w (read_short f small)
-does-fits s EndAsked f st n w k small = fin_fits s n st w
-does-fits s (EndAnswered b) f st n w k small = fin_ok_fits s n b st w
-does-fits s Aborted f st n w k small = abort_fits s n 0 st w
-does-fits s Dropped f st n w k small = abort_fits s n 1 st w
+does_fits s Malformed f st n w k small = barred
+does_fits s (Transfer c a) f st n w k small = request_fits c a (reading_in f) st (read_short f small)
+does_fits s End f st n w k small = end_fits st
+does_fits s Tick f st n w k small = tick_fits s n (late s st) st w
+does_fits s (StartAsked a) f st n w k small = start_fits s n a (or_nothing f) st (held_short f small)
+does_fits s (StartAnswered b) f st n w k small = reply_fits s n b (or_nothing f) st w k (held_short f small)
+does_fits s Data f st n w k small = data_fits s n (reading_in f) st w (read_short f small)
+does_fits s EndAsked f st n w k small = fin_fits s n st w
+does_fits s (EndAnswered b) f st n w k small = fin_ok_fits s n b st w
+does_fits s Aborted f st n w k small = abort_fits s n 0 st w
+does_fits s Dropped f st n w k small = abort_fits s n 1 st w
 
 -- ---- a sound unit
 
@@ -80,9 +80,9 @@ step_fits rm u ev r small =
     let n : length (take u.letters u.name) ≤ 32 = omega (arith, r.named, r.wide, length-take-le u.letters u.name (omega (arith, r.named, r.wide))) in
     let w : length (waiting_of (state_of u)) ≤ 8 = omega (arith, r.few, waiting_count (setup_of u) u (state_of u) r.whole) in
     let k : length (held_by (state_of u)) ≤ 554 = omega (arith, r.held, kept_count (setup_of u) u (state_of u) r.whole) in
-    fits-pick (ltb rm 1024) barred
-    (fits-pick (sound_of u)
-    (does-fits (setup_of u) (event_of ev) (drop (frame_from (event_of ev)) ev) (state_of u) n w k (small_drop (frame_from (event_of ev)) ev small)) barred)
+    fits_pick (ltb rm 1024) barred
+    (fits_pick (sound_of u)
+    (does_fits (setup_of u) (event_of ev) (drop (frame_from (event_of ev)) ev) (state_of u) n w k (small_drop (frame_from (event_of ev)) ev small)) barred)
 
 pub room : (rm : ℕ) (u : Value) (ev : List ℕ) (st : State) (os : List Out)
     → sound_of u ≡ true

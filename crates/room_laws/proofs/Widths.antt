@@ -6,7 +6,7 @@ use mathlib.Core.List.{List, [], ◌∷◌, map, append-nil}
 use native.Mathlib.Omega.{arith}
 use lib.ListN.{length, length-append}
 use Rattle.frame.proofs.WriterLaws.{encode_is}
-use Rattle.book.specs.Book.{Body, Kind, ok, not_ok, unknown, note, Out, answer, seen, failed, uncertain, Setup, ack, ack-body, local, unsure, refuse_all, with_seen}
+use Rattle.book.specs.Book.{Body, Kind, ok, not_ok, unknown, note, Out, answer, seen, failed, uncertain, Setup, ack, ack_body, local, unsure, refuse_all, with_seen}
 use Rattle.book.specs.View.{frame_octets, frame_message}
 use Rattle.book.specs.Lines.{laid, line_of, laid_out}
 
@@ -43,7 +43,7 @@ module _ (s : Setup) (named : length s.name ≤ 32) where
   local_short m k i = note_short k i s.name m none named
 
   pub ack_short : (i : ℕ) (b : Body) → length (frame_octets (ack s i b)) ≤ 38
-  unfolding ack ack-body
+  unfolding ack ack_body
   ack_short i b = note_short ok i s.name b.maintained b.type named
 
   -- the answers to all who wait, then the rest

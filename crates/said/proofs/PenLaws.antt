@@ -50,24 +50,24 @@ pub head_put : (head : List ℕ) (n at : ℕ) {b b1 a : List ℕ} {j r : ℕ} �
     Put b at ((length head + n) / 256 ∷ (length head + n) % 256 ∷ head) a r
 head_put head n at h p q = let e : (length head + n) / 256 % 256 ≡ (length head + n) / 256 = omega arith in rw e at (then p q)
 
-line-octets : (head body : List ℕ) (n : ℕ) → length body ≡ n → ((length head + n) / 256 ∷ (length head + n) % 256 ∷ head) ++ body ≡ laid ((head ++ body) ∷ [])
-line-octets head body n e = let l : length (head ++ body) ≡ length head + n = omega (arith, length-append head body) in rw (l, append-nil)
+line_octets : (head body : List ℕ) (n : ℕ) → length body ≡ n → ((length head + n) / 256 ∷ (length head + n) % 256 ∷ head) ++ body ≡ laid ((head ++ body) ∷ [])
+line_octets head body n e = let l : length (head ++ body) ≡ length head + n = omega (arith, length-append head body) in rw (l, append-nil)
 
 pub line_made : (head body : List ℕ) (n lines : ℕ) (p : Pen) {b b1 a : List ℕ} {j r : ℕ} → length body ≡ n →
     Put b p.at ((length head + n) / 256 ∷ (length head + n) % 256 ∷ head) b1 j → Put b1 j body a r →
     Laid b p ((head ++ body) ∷ []) a (record { at = r; lines = p.lines + 1 })
-line_made head body n lines p e x y = record { put = put_as (line-octets head body n e) (then x y); count = omega arith }
+line_made head body n lines p e x y = record { put = put_as (line_octets head body n e) (then x y); count = omega arith }
 
-pub line-head : (head : List ℕ) (p : Pen) {b a : List ℕ} {r : ℕ} →
+pub line_head : (head : List ℕ) (p : Pen) {b a : List ℕ} {r : ℕ} →
     Put b p.at ((length head + 0) / 256 ∷ (length head + 0) % 256 ∷ head) a r → Laid b p (head ∷ []) a (record { at = r; lines = p.lines + 1 })
-line-head head p x = laid_as (ap (λ l. l ∷ []) (append-nil head)) (line_made head [] 0 0 p refl x (Puts.none _ _))
+line_head head p x = laid_as (ap (λ l. l ∷ []) (append-nil head)) (line_made head [] 0 0 p refl x (Puts.none _ _))
 
 -- ---- a received frame without its extension fields
 
-pub line-bare : (head s : List ℕ) (end : ℕ) (p : Pen) {b b1 a : List ℕ} {j : ℕ} → 1 ≤ end → end ≤ length s →
+pub line_bare : (head s : List ℕ) (end : ℕ) (p : Pen) {b b1 a : List ℕ} {j : ℕ} → 1 ≤ end → end ≤ length s →
     Put b p.at ((length head + end) / 256 ∷ (length head + end) % 256 ∷ head) b1 j → a ≡ sets b1 j (bare_to s end) →
     Laid b p ((head ++ bare_to s end) ∷ []) a (record { at = j + end; lines = p.lines + 1 })
-line-bare head s end p {j = j} h l x y =
+line_bare head s end p {j = j} h l x y =
     let n = bare-length s end h l in
     line_made head (bare_to s end) end 0 p n x (record { held = y; place = ap (λ k. j + k) (sym n) })
 
@@ -128,8 +128,8 @@ line_note head n name size p h l e x y = line_made head (note_octets n name) siz
 
 -- ---- the answers made locally
 
-pub answers-more : (f : ℕ → List ℕ) (ids : List ℕ) (i : ℕ) → i < length ids → map f (take i ids) ++ (f (get_or ids i 0) ∷ []) ≡ map f (take (i + 1) ids)
-answers-more f ids i h = rw (add-one, take-suc ids i 0 h, map-append f)
+pub answers_more : (f : ℕ → List ℕ) (ids : List ℕ) (i : ℕ) → i < length ids → map f (take i ids) ++ (f (get_or ids i 0) ∷ []) ≡ map f (take (i + 1) ids)
+answers_more f ids i h = rw (add-one, take-suc ids i 0 h, map-append f)
 
 -- how many octets a note has before its name
 pub size_none : (t : OneOctet) → t ≡ NoOctet → 5 ≡ 5 + length (type_octets (octet_in t))

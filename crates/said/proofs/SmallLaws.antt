@@ -43,11 +43,11 @@ module _ (a b : Terms) where
 
 -- ---- a message that was heard, as the note that acknowledges it
 
-pub ack-made : (s : List ℕ) (h : Header) (t : OneOctet) (i : TwoOctets) (r : ℕ) → octet_in t ≡ one_octet (held_at s h.message_type) →
+pub ack_made : (s : List ℕ) (h : Header) (t : OneOctet) (i : TwoOctets) (r : ℕ) → octet_in t ≡ one_octet (held_at s h.message_type) →
     number_in i ≡ two_octets (held_at s h.identifier) → r ≡ needed (number_in i) →
     AckOf s h (record { multi_shot = h.multi_shot; confirmation = 2; message_type = t; reference = r })
 unfolding message_at
-ack-made s h t i r et ei er = record { shot = refl; type = et; reference = er ∙ ap needed ei; confirmation = refl }
+ack_made s h t i r et ei er = record { shot = refl; type = et; reference = er ∙ ap needed ei; confirmation = refl }
 
 -- ---- a part of the event
 

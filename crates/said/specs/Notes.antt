@@ -10,7 +10,7 @@ use Rattle.frame.specs.declared.OneOctet.TheVariants.{NoOctet}
 use Rattle.said.specs.declared.Note.{Note}
 use Rattle.said.specs.declared.Say.{Say}
 
--- confirmation, reference, multi_shot bit and type as the note says; the unit's name as sender; nothing else
+-- confirmation, reference, multiShot bit and type as the note says; the unit's name as sender; nothing else
 abbrev pub note_frame : Note → (name : List ℕ) → Frame
 note_frame n name =
     note (kind_for n.confirmation) n.reference none name

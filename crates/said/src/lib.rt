@@ -36,7 +36,7 @@ pub struct Say {
     pub confirmation: u8,
 }
 
-// A bit as a number: the multi_shot bit of a note, the confirmation that a request's frame has.
+// A bit as a number: the multiShot bit of a note, the confirmation that a request's frame has.
 pub fn bit_of(b: bool) -> u8
     ensures { (result ≡ weight b 1) × (result ≤ 1) }
 {

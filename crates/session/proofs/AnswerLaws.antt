@@ -111,8 +111,8 @@ print_two out at k n r after h p q =
     (Puts.put_as (sym (text_one (k ∷ n ∷ []))) e, omega (arith, e.place, printed_long (k ∷ n ∷ [])))
 
 -- two goes of printing are one
-pub shown-then : (a b : List (List ℕ)) {b0 b1 b2 : List ℕ} {i j k : ℕ} → Put b0 i (text a) b1 j → Put b1 j (text b) b2 k → Put b0 i (text (a ++ b)) b2 k
-shown-then a b p q = Puts.put_as (sym (text-append a b)) (Puts.then p q)
+pub shown_then : (a b : List (List ℕ)) {b0 b1 b2 : List ℕ} {i j k : ℕ} → Put b0 i (text a) b1 j → Put b1 j (text b) b2 k → Put b0 i (text (a ++ b)) b2 k
+shown_then a b p q = Puts.put_as (sym (text-append a b)) (Puts.then p q)
 
 state_long : (u : Value) → length (text (state_line u ∷ [])) ≡ 5
 state_long u = ap length (text_one (state_line u)) ∙ printed_long (state_line u)
@@ -130,7 +130,7 @@ module _ {out mid after image : List ℕ} {at place : ℕ} {r : Fed} where
   goes_on u n o ls e f p h t = record {
     session = t.session ∙ ap (λ x. record { unit = x; phase = Running; passing = false }) f;
     taken = t.taken;
-    put = shown-then (outcome_lines o) (state_line (turn_of u o).unit ∷ []) (rw e at p) (rw f at t.put);
+    put = shown_then (outcome_lines o) (state_line (turn_of u o).unit ∷ []) (rw e at p) (rw f at t.put);
     small = omega (arith, t.put.place, state_long (unit_of image));
   }
 

@@ -80,8 +80,8 @@ module _ (s : Standing) (i : List ℕ) (from : ℕ) {out image after : List ℕ}
       let e : r.taken ≡ (line_taken s (drop from i)).taken = rw (stands i from) at t.taken in
       omega (arith, taken_within s (drop from i), length-drop from i)
 
-  pub after-takes : Takes (shifted from (line_taken s (drop from i))) out at image after (record { session = r.session; taken = from + r.taken; written = r.written })
-  after-takes =
+  pub after_takes : Takes (shifted from (line_taken s (drop from i))) out at image after (record { session = r.session; taken = from + r.taken; written = r.written })
+  after_takes =
       let k : Takes (line_taken s (drop from i)) out at image after r = rw (stands i from) at t in
       record { session = k.session; taken = ap (λ n. from + n) k.taken; put = k.put; small = k.small }
 
@@ -97,10 +97,10 @@ idle_feeding (suc n) room s i e = go (idle_feeding n (room - 0) s i e) (ltb room
     go again true = refl
     go again false = rw (e, again)
 
-full-feeding : (n room : ℕ) (s : Standing) (i : List ℕ) → ltb room most ≡ true → feeding n room s i ≡ resting s
+full_feeding : (n room : ℕ) (s : Standing) (i : List ℕ) → ltb room most ≡ true → feeding n room s i ≡ resting s
 unfolding feeding
-full-feeding zero room s i e = refl
-full-feeding (suc n) room s i e = rw e
+full_feeding zero room s i e = refl
+full_feeding (suc n) room s i e = rw e
 
 next_feeding : (n room : ℕ) (s : Standing) (i : List ℕ) → 0 < n → ltb room most ≡ false
     → feeding n room s i
@@ -153,7 +153,7 @@ module _ {s : Standing} {i out₀ image out : List ℕ} {fed : Fed} {left : ℕ}
   going_end h = let z : left ≡ 0 = omega arith in stops (rw z)
 
   pub going_full : true ≡ ltb (length out - fed.written) most → Gone s i out₀ fed image out
-  going_full e = stops (full-feeding left (length out₀ - fed.written) (standing fed.session image) (drop fed.taken i) (rw g.wide at (sym e)))
+  going_full e = stops (full_feeding left (length out₀ - fed.written) (standing fed.session image) (drop fed.taken i) (rw g.wide at (sym e)))
 
   pub going_fits : false ≡ ltb (length out - fed.written) most → fed.written + most ≤ length out
   going_fits e = let h = ltb-false (length out - fed.written) most (sym e) in omega (arith, g.wide, g.room)

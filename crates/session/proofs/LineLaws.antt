@@ -15,7 +15,7 @@ use Rattle.octets.proofs.Puts as Puts
 use Rattle.text.specs.Reading.{leading, to_feed, feed_from, line_in}
 use Rattle.text.specs.declared.Line.{Line}
 use Rattle.text.specs.declared.Line.TheVariants.{Octets, Refused, Open}
-use Rattle.text.proofs.FeedLaws.{leading-cut}
+use Rattle.text.proofs.FeedLaws.{leading_cut}
 use Rattle.text.proofs.Found.{event_is, Found, octets, refused, unended, found, found_octets}
 use Rattle.session.specs.Listing.{text, answer_to, listed}
 use Rattle.session.specs.Feeding.{Standing, standing, heard, passing_over, not_ended, line_taken, most, last_line, finishing}
@@ -34,10 +34,10 @@ pub left_later : (s : Session) (i : List ℕ) (at : ℕ) → either s.passing (l
 left_later s i at e = rw e
 
 -- it prints nothing
-pub left-takes : (s : Session) (i image out : List ℕ) (at : ℕ) (r : Fed) → line_taken (standing s image) i ≡ not_ended (standing s image) i → r ≡ left_at s i at
+pub left_takes : (s : Session) (i image out : List ℕ) (at : ℕ) (r : Fed) → line_taken (standing s image) i ≡ not_ended (standing s image) i → r ≡ left_at s i at
     → Takes (line_taken (standing s image) i) out at image out r
 unfolding text
-left-takes s i image out at r e f = rw (e, f) (go (either s.passing (ltb 4096 (length i))))
+left_takes s i image out at r e f = rw (e, f) (go (either s.passing (ltb 4096 (length i))))
   where
     go : (x : Bool)
         → Takes (pick x (record { session = passing_over (standing s image); taken = length i; lines = [] }) (record { session = standing s image; taken = 0; lines = [] })) out at image out
@@ -70,7 +70,7 @@ module _ (s : Standing) (i : List ℕ) where
       → line_taken s i ≡ heard next (answer_to s.phase s.unit (some (leading i)))
   unfolding line_taken
   taken_octets l (octets o h f) n next q p =
-      let m : o ≡ leading i = (event_is (take (to_feed i) i) o f).0 ∙ leading-cut i in
+      let m : o ≡ leading i = (event_is (take (to_feed i) i) o f).0 ∙ leading_cut i in
       let d : next ≡ to_feed i + 1 = cc in
       rw (lt-ltb (to_feed i) (length i) h, ← p, f, m, d)
   taken_octets l (refused h f) n next q p = let z : ◌≡◌ {A = ℕ} 0 1 = cc in absurd (omega arith)
@@ -90,9 +90,9 @@ module _ (s : Standing) (i : List ℕ) where
   taken_open l (refused h f) q = let z : ◌≡◌ {A = ℕ} 0 1 = cc in absurd (omega arith)
 
   module _ {r : Line} {e : List ℕ} (l : LineRead i r e) where
-    pub line-octets : (n next : ℕ) → r ≡ Octets n next → (o : List ℕ) → o ≡ take n e → false ≡ s.passing
+    pub line_octets : (n next : ℕ) → r ≡ Octets n next → (o : List ℕ) → o ≡ take n e → false ≡ s.passing
         → line_taken s i ≡ heard next (answer_to s.phase s.unit (some o))
-    line-octets n next q o f p =
+    line_octets n next q o f p =
         taken_octets (line_in i) (found i) n next (sym l.line ∙ q) p ∙ ap (λ x. heard next (answer_to s.phase s.unit (some x))) (sym (f ∙ l.octets n next q))
 
     pub line_refused : (next : ℕ) → r ≡ Refused next → false ≡ s.passing → line_taken s i ≡ heard next (answer_to s.phase s.unit none)

@@ -79,10 +79,10 @@ module _ {out₀ s out : List ℕ} {at n place from left : ℕ} (w : Walked out�
       go zero l = absurd (omega arith)
       go (suc k) l = let e : suc k - 1 ≡ k = omega arith in rw (e, drop-drop (2 + length_at (drop from s)) from s)
 
-  text-left : 0 < left → text (lines_in left (drop from s))
+  text_left : 0 < left → text (lines_in left (drop from s))
       ≡ printed (take (length_at (drop from s)) (drop (from + 2) s)) ++ text (lines_in (left - 1) (drop (from + (2 + length_at (drop from s))) s))
   unfolding lines_in text
-  text-left h = go left h
+  text_left h = go left h
     where
       go : (k : ℕ) → 0 < k → text (lines_in k (drop from s))
           ≡ printed (take (length_at (drop from s)) (drop (from + 2) s)) ++ text (lines_in (k - 1) (drop (from + (2 + length_at (drop from s))) s))
@@ -113,7 +113,7 @@ module _ {out₀ s out : List ℕ} {at n place from left : ℕ} (w : Walked out�
         let m : r ≡ place + (2 * long + 1) = omega (arith, k.place, printed_long line) in
         let f : from + (2 + length_at (drop from s)) ≡ from + 2 + long = omega (arith, is) in
         let z : size_of left (drop from s) ≡ 2 + long + size_of (left - 1) (drop (from + 2 + long) s) = rw (f, ← is) at (size_left more) in
-        let t : text (lines_in left (drop from s)) ≡ printed line ++ text (lines_in (left - 1) (drop (from + 2 + long) s)) = rw (f, ← is, ← e) at (text-left more) in
+        let t : text (lines_in left (drop from s)) ≡ printed line ++ text (lines_in (left - 1) (drop (from + 2 + long) s)) = rw (f, ← is, ← e) at (text_left more) in
         record {
           shown = w.shown ++ printed line;
           put = Puts.then w.put k;

@@ -110,9 +110,9 @@ long_passed line (c ∷ more) h = go (long_passed (line ++ (c ∷ [])) more) (eq
 -- ---- one line
 
 -- what a line prints, and then what is still to come, is what was to come
-pub line-whole : (s : Standing) (i more : List ℕ) (t : Taken) → How s i t → whole s (i ++ more) ≡ text t.lines ++ whole t.session (drop t.taken i ++ more)
+pub line_whole : (s : Standing) (i more : List ℕ) (t : Taken) → How s i t → whole s (i ++ more) ≡ text t.lines ++ whole t.session (drop t.taken i ++ more)
 unfolding listed text
-line-whole s i more t (ended h) = go s.passing refl
+line_whole s i more t (ended h) = go s.passing refl
   where
     answered : Bool → List ℕ
     answered p = listed s.phase s.unit (pick p none (event_in (take (to_feed i) i)) ∷ events_from [] (drop (to_feed i + 1) i ++ more))
@@ -120,22 +120,22 @@ line-whole s i more t (ended h) = go s.passing refl
     go : (p : Bool) → p ≡ s.passing → listed s.phase s.unit (coming s.passing (i ++ more)) ≡ answered s.passing
     go true e = rw (← e, over_split i more h)
     go false e = rw (← e, split [] i more h)
-line-whole s i more t (over h e) = go s.passing refl
+line_whole s i more t (over h e) = go s.passing refl
   where
     go : (p : Bool) → p ≡ s.passing → listed s.phase s.unit (coming s.passing (i ++ more)) ≡ text [] ++ listed s.phase s.unit (passed (drop (length i) i ++ more))
     go true q = rw (← q, drop-length i, over_joined i more h)
     go false q =
         let l = ltb-true 4096 (length i) (rw (← q) at e) in
         rw (← q, drop-length i, joined [] i more h, long_passed i more l)
-line-whole s i more t (left h e k) = refl
+line_whole s i more t (left h e k) = refl
 
 -- ---- all lines for which there is room
 
-feeding-whole : (n room : ℕ) (s : Standing) (i more : List ℕ)
+feeding_whole : (n room : ℕ) (s : Standing) (i more : List ℕ)
     → whole s (i ++ more) ≡ (feeding n room s i).written ++ whole (feeding n room s i).session (drop (feeding n room s i).taken i ++ more)
 unfolding feeding
-feeding-whole zero room s i more = refl
-feeding-whole (suc n) room s i more = go (ltb room most) (λ r. feeding-whole n r (line_taken s i).session (drop (line_taken s i).taken i) more)
+feeding_whole zero room s i more = refl
+feeding_whole (suc n) room s i more = go (ltb room most) (λ r. feeding_whole n r (line_taken s i).session (drop (line_taken s i).taken i) more)
   where
     t : Taken
     t = line_taken s i
@@ -149,7 +149,7 @@ feeding-whole (suc n) room s i more = go (ltb room most) (λ r. feeding-whole n 
         → whole s (i ++ more) ≡ (pick x (resting s) (then t f)).written ++ whole (pick x (resting s) (then t f)).session (drop (pick x (resting s) (then t f)).taken i ++ more)
     go true again = refl
     go false again =
-        line-whole s i more t (how s i) ∙ ap (λ l. text t.lines ++ l) (again (room - length (text t.lines)))
+        line_whole s i more t (how s i) ∙ ap (λ l. text t.lines ++ l) (again (room - length (text t.lines)))
         ∙ sym (append_assoc (text t.lines) f.written _)
         ∙ ap (λ l. text t.lines ++ f.written ++ whole f.session (l ++ more)) (drop-drop f.taken t.taken i)
 
@@ -196,17 +196,17 @@ finished_whole s held room last h e k = rw (le-ltb last most k) (ap (listed s.ph
 
 -- ---- the theorem
 
-pub run-whole : {s : Standing} {held input output : List ℕ} → Run s held input output → output ≡ whole s (held ++ input)
-run-whole (read {s} {held} {input} {output} block r) = run-whole r ∙ ap (whole s) (append_assoc held block input)
-run-whole (fed {s} {held} {input} {output} room r) =
-    ap (λ l. (feeding (length held) room s held).written ++ l) (run-whole r) ∙ sym (feeding-whole (length held) room s held input)
-run-whole (finished {s} {held} room last h e k) = finished_whole s held room last h e k ∙ ap (whole s) (sym (append-nil held))
-run-whole (stopped {s} {held} {input} e) = sym (stopped_whole s (held ++ input) e)
+pub run_whole : {s : Standing} {held input output : List ℕ} → Run s held input output → output ≡ whole s (held ++ input)
+run_whole (read {s} {held} {input} {output} block r) = run_whole r ∙ ap (whole s) (append_assoc held block input)
+run_whole (fed {s} {held} {input} {output} room r) =
+    ap (λ l. (feeding (length held) room s held).written ++ l) (run_whole r) ∙ sym (feeding_whole (length held) room s held input)
+run_whole (finished {s} {held} room last h e k) = finished_whole s held room last h e k ∙ ap (whole s) (sym (append-nil held))
+run_whole (stopped {s} {held} {input} e) = sym (stopped_whole s (held ++ input) e)
 
 -- "The listing program reads standard input …": any run of the program from its start writes the listing of its input
 pub runs : (input output : List ℕ) → Run fresh [] input output → output ≡ listing input
 unfolding listing
-runs input output r = run-whole r
+runs input output r = run_whole r
 
 -- and so whatever image is lent to it at first: its first line writes a new one
 first_any : (u v : Value) (es : List (Option (List ℕ))) → listed First u es ≡ listed First v es
@@ -216,7 +216,7 @@ first_any u v (e ∷ es) = refl
 
 pub runs_over : (image input output : List ℕ) → Run (standing unheard image) [] input output → output ≡ listing input
 unfolding listing
-runs_over image input output r = run-whole r ∙ first_any (unit_of image) blank (events_from [] input)
+runs_over image input output r = run_whole r ∙ first_any (unit_of image) blank (events_from [] input)
 
 -- ---- and a run there is, for every input: the theorem is not empty
 
@@ -237,8 +237,8 @@ drains (suc n) s held h = go (feeding (length held) most s held).taken refl (dra
         (omega (arith, length-drop (feeding (length held) most s held).taken held)) in
         record { output = (feeding (length held) most s held).written ++ r.output; run = fed most r.run }
 
-pub every-input : (input : List ℕ) → Ran fresh [] input
-every-input input = begun (drains (length input) fresh input (omega arith))
+pub every_input : (input : List ℕ) → Ran fresh [] input
+every_input input = begun (drains (length input) fresh input (omega arith))
   where
     -- all is read at once
     begun : Ran fresh input [] → Ran fresh [] input

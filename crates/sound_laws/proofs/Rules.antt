@@ -16,7 +16,7 @@ use Rattle.book.specs.Book.{Msg, plain, sure, msg, note, Reading, bad, good, Out
 use Rattle.book.specs.View.{reading_in, msg_message, frame_message}
 use Rattle.book.specs.declared.Terms.{Terms}
 use Rattle.book.proofs.Views.{read_allowed}
-use Rattle.sound_laws.proofs.Within.{Within, in_idle, in_single, in_multi, in_ending, in_assoc, Rated, Listed, Keepable, Positive, both_left, both_right, joins, ids-listed}
+use Rattle.sound_laws.proofs.Within.{Within, in_idle, in_single, in_multi, in_ending, in_assoc, Rated, Listed, Keepable, Positive, both_left, both_right, joins, ids_listed}
 
 -- an outcome whose state is within its limits
 pub data Keeps (s : Setup) : Outcome → Type 0 where
@@ -84,20 +84,20 @@ listed_fewer r w l = let h = fewer_length (fewer r w) in record { few = omega ar
 
 -- ---- the waiting list, one put after it
 
-waits-after : (x i : ℕ) (w : List ℕ) → waits x w ≡ false → eqb x i ≡ false → waits x (w ++ (i ∷ [])) ≡ false
-waits-after x i [] e q = rw q
-waits-after x i (y ∷ w) e q =
-    either_none (eqb x y) (waits x (w ++ (i ∷ []))) (either_left (eqb x y) (waits x w) e) (waits-after x i w (either_right (eqb x y) (waits x w) e) q)
+waits_after : (x i : ℕ) (w : List ℕ) → waits x w ≡ false → eqb x i ≡ false → waits x (w ++ (i ∷ [])) ≡ false
+waits_after x i [] e q = rw q
+waits_after x i (y ∷ w) e q =
+    either_none (eqb x y) (waits x (w ++ (i ∷ []))) (either_left (eqb x y) (waits x w) e) (waits_after x i w (either_right (eqb x y) (waits x w) e) q)
 
 other : (i x : ℕ) → eqb i x ≡ false → eqb x i ≡ false
 other i x e = ne_eqb x i (λ q. eqb-false i x e (sym q))
 
-differ-after : (i : ℕ) (w : List ℕ) → differ w ≡ true → waits i w ≡ false → differ (w ++ (i ∷ [])) ≡ true
-differ-after i [] e q = refl
-differ-after i (x ∷ w) e q =
+differ_after : (i : ℕ) (w : List ℕ) → differ w ≡ true → waits i w ≡ false → differ (w ++ (i ∷ [])) ≡ true
+differ_after i [] e q = refl
+differ_after i (x ∷ w) e q =
     let m : waits x w ≡ false = not-true (waits x w) (both_left (not (waits x w)) (differ w) e) in
-    joins (not (waits x (w ++ (i ∷ [])))) (differ (w ++ (i ∷ []))) (not_in (waits x (w ++ (i ∷ []))) (waits-after x i w m (other i x (either_left (eqb i x) (waits i w) q))))
-    (differ-after i w (both_right (not (waits x w)) (differ w) e) (either_right (eqb i x) (waits i w) q))
+    joins (not (waits x (w ++ (i ∷ [])))) (differ (w ++ (i ∷ []))) (not_in (waits x (w ++ (i ∷ []))) (waits_after x i w m (other i x (either_left (eqb i x) (waits i w) q))))
+    (differ_after i w (both_right (not (waits x w)) (differ w) e) (either_right (eqb i x) (waits i w) q))
 
 -- what no refusal 3, 4 or 5 says
 free : (x y z : Bool) → ◌≡◌ {A = Option ℕ} (pick x (pick y (some 4) (pick z (some 5) none)) (some 3)) none → (y ≡ false) × (z ≡ false)
@@ -106,14 +106,14 @@ free true true z e = let z : ◌≡◌ {A = ℕ} 0 1 = cc in absurd (omega arith
 free true false true e = let z : ◌≡◌ {A = ℕ} 0 1 = cc in absurd (omega arith)
 free true false false e = (refl, refl)
 
-listed-after : (a T : Terms) (m : Msg) (w : List ℕ) (t : ℕ) → bar a m (assoc T w t) ≡ none → Listed 8 w → Listed 8 (w ++ ids_of m)
+listed_after : (a T : Terms) (m : Msg) (w : List ℕ) (t : ℕ) → bar a m (assoc T w t) ≡ none → Listed 8 w → Listed 8 (w ++ ids_of m)
 unfolding bar bar_confirmed ids_of full
-listed-after a T (plain i r q b) w t e l = rw (append-nil w) l
-listed-after a T (sure i r q b) w t e l =
+listed_after a T (plain i r q b) w t e l = rw (append-nil w) l
+listed_after a T (sure i r q b) w t e l =
     let p = free (same_terms (settled a) T) (waits i w) (leb 8 (length w)) e in
     let n = length-append w (i ∷ []) in
     let h : length (w ++ (i ∷ [])) ≤ 8 = omega (arith, leb-false 8 (length w) p.1) in
-    record { few = h; distinct = differ-after i w l.distinct p.0 }
+    record { few = h; distinct = differ_after i w l.distinct p.0 }
 
 -- ---- terms
 
@@ -130,7 +130,7 @@ unfolding settled
 settled_rated a h = record { low = rer_low a.rer; high = rer_high a.rer h }
 
 wide : (k : Msg) → Listed 8 (ids_of k)
-wide k = let l = ids-listed k in record { few = omega arith; distinct = l.distinct }
+wide k = let l = ids_listed k in record { few = omega arith; distinct = l.distinct }
 
 alone : Listed 8 []
 alone = record { few = omega arith; distinct = refl }
@@ -151,7 +151,7 @@ vetted false (good (msg (sure i r q b)) zero) m e = let z : ◌≡◌ {A = ℕ} 
 module _ (s : Setup) (p : Positive s) where
   keeps_single : (a : Terms) (m : Msg) (st : State) → a.rer ≤ 2 → Keeps s (on_single a m st)
   unfolding on_single
-  keeps_single a m idle h = goes (in_single (settled_rated a h) (ids-listed m) p.start)
+  keeps_single a m idle h = goes (in_single (settled_rated a h) (ids_listed m) p.start)
   keeps_single a m (single T w t) h = refuses
   keeps_single a m (multi T k t) h = refuses
   keeps_single a m (ending T w t) h = refuses
@@ -164,7 +164,7 @@ module _ (s : Setup) (p : Positive s) where
   keeps_multi b a m (multi T w t) e h k x = refuses
   keeps_multi b a m (ending T w t) e h k x = refuses
   keeps_multi (some n) a m (assoc T w t) e h k x = refuses
-  keeps_multi none a m (assoc T w t) e h k (in_assoc r l y) = goes (in_assoc r (listed-after a T m w t e l) p.inactivity)
+  keeps_multi none a m (assoc T w t) e h k (in_assoc r l y) = goes (in_assoc r (listed_after a T m w t e l) p.inactivity)
 
   keeps_shot : (b : Bool) (a : Terms) (m : Msg) (st : State) → (body_of m).maintained ≡ b → a.rer ≤ 2 → Allowed (msg_message m) → Within s st → Keeps s (on_shot b a m st)
   unfolding on_shot

@@ -72,9 +72,9 @@ zeros_of : (n : ℕ) → zeros (replicate n 0) ≡ true
 zeros_of zero = refl
 zeros_of (suc n) = zeros_of n
 
-zeros-after : (n : ℕ) (s : List ℕ) → zeros (drop (length s) (padded n s)) ≡ true
+zeros_after : (n : ℕ) (s : List ℕ) → zeros (drop (length s) (padded n s)) ≡ true
 unfolding padded
-zeros-after n s = rw (drop-append_seam s (replicate (n - length s) 0)) (zeros_of (n - length s))
+zeros_after n s = rw (drop-append_seam s (replicate (n - length s) 0)) (zeros_of (n - length s))
 
 zeros_none : (n : ℕ) → zeros (padded n []) ≡ true
 unfolding padded
@@ -85,12 +85,12 @@ zeros_none n = zeros_of (n - 0)
 module _ (s : Setup) (o : Limited s) where
   set_sound : (k : ℕ) (a : Terms) (w f : List ℕ) (t : ℕ) → setup_sound (pictured s k a w f t) ≡ true
   unfolding setup_sound
-  set_sound k a w f t = joins _ _ o (zeros-after 32 s.name)
+  set_sound k a w f t = joins _ _ o (zeros_after 32 s.name)
 
 ids_sound_lem : (w : List ℕ) → Listed 8 w → ids_sound (padded 8 w) (length w) ≡ true
 unfolding ids_sound
 ids_sound_lem w l =
-    rw (le-leb (length w) 8 l.few, take-padded 8 w, l.distinct) (zeros-after 8 w)
+    rw (le-leb (length w) 8 l.few, take-padded 8 w, l.distinct) (zeros_after 8 w)
 
 -- from its four parts
 sound_from : (v : Value) → setup_sound v ≡ true → ids_sound v.waiting v.count ≡ true → kept_sound v ≡ true → state_sound v ≡ true → sound_of v ≡ true
@@ -131,10 +131,10 @@ unfolding kept_sound kept_none
 none_4 s a w t = zeros_none 554
 
 -- the kept frame
-pub ids-listed : (k : Msg) → Listed 1 (ids_of k)
+pub ids_listed : (k : Msg) → Listed 1 (ids_of k)
 unfolding ids_of
-ids-listed (plain i r q b) = record { few = omega arith; distinct = refl }
-ids-listed (sure i r q b) = record { few = omega arith; distinct = refl }
+ids_listed (plain i r q b) = record { few = omega arith; distinct = refl }
+ids_listed (sure i r q b) = record { few = omega arith; distinct = refl }
 
 read_again : (k : Msg) → Allowed (msg_message k) → reading_in (msg_octets k) ≡ good (msg k) 0
 unfolding msg_octets frame_octets frame_message
@@ -152,7 +152,7 @@ says s a (sure i r q b) f t e = rw (e, eq-eqb i i refl)
 reads_kept : (s : Setup) (a : Terms) (k : Msg) (t : ℕ) → Keepable k → kept_sound (picture s (multi a k t)) ≡ true
 unfolding kept_sound kept_good
 reads_kept s a k t p =
-    rw (le-leb (length (msg_octets k)) 554 (short_again k p.allowed), zeros-after 554 (msg_octets k), take-padded 554 (msg_octets k), read_again k p.allowed)
+    rw (le-leb (length (msg_octets k)) 554 (short_again k p.allowed), zeros_after 554 (msg_octets k), take-padded 554 (msg_octets k), read_again k p.allowed)
     (says s a k (msg_octets k) t p.maintained)
 
 wider : (w : List ℕ) → Listed 1 w → Listed 8 w
@@ -171,8 +171,8 @@ pictures_sound s idle o in_idle =
 pictures_sound s (single a w t) o (in_single r l h) =
     sound_from (picture s (single a w t)) (set_sound s o 1 a w [] t) (ids_sound_lem w (wider w l)) (none_1 s a w t) (busy_1 s a r w [] t l.few h)
 pictures_sound s (multi a k t) o (in_multi r p h) =
-    sound_from (picture s (multi a k t)) (set_sound s o 2 a (ids_of k) (msg_octets k) t) (ids_sound_lem (ids_of k) (wider (ids_of k) (ids-listed k)))
-    (reads_kept s a k t p) (busy_2 s a r (ids_of k) (msg_octets k) t (ids-listed k).few h)
+    sound_from (picture s (multi a k t)) (set_sound s o 2 a (ids_of k) (msg_octets k) t) (ids_sound_lem (ids_of k) (wider (ids_of k) (ids_listed k)))
+    (reads_kept s a k t p) (busy_2 s a r (ids_of k) (msg_octets k) t (ids_listed k).few h)
 pictures_sound s (ending a w t) o (in_ending r l h) =
     sound_from (picture s (ending a w t)) (set_sound s o 3 a w [] t) (ids_sound_lem w l) (none_3 s a w t) (busy_3 s a r w [] t h)
 pictures_sound s (assoc a w t) o (in_assoc r l h) =

@@ -236,19 +236,19 @@ module _ (u : Value) (s : sound_of u ≡ true) (wide : length u.name ≡ 32) (ei
   g₁ = both (zeros (drop u.octets u.kept)) (kept_reads u (reading_in frame))
 
   module _ (e : u.state ≡ 2) where
-    frame-octets : u.octets ≤ 554
+    frame_octets_lem : u.octets ≤ 554
     unfolding kept_good
-    frame-octets = leb-true u.octets 554 (left (leb u.octets 554) g₁ (kept_good_lem u s e))
+    frame_octets_lem = leb-true u.octets 554 (left (leb u.octets 554) g₁ (kept_good_lem u s e))
 
-    frame-rest : g₁ ≡ true
+    frame_rest : g₁ ≡ true
     unfolding kept_good
-    frame-rest = right (leb u.octets 554) g₁ (kept_good_lem u s e)
+    frame_rest = right (leb u.octets 554) g₁ (kept_good_lem u s e)
 
     frame_kept : u.kept ≡ padded 554 frame
-    frame_kept = padded_is 554 u.octets u.kept long frame-octets (left (zeros (drop u.octets u.kept)) (kept_reads u (reading_in frame)) frame-rest)
+    frame_kept = padded_is 554 u.octets u.kept long frame_octets_lem (left (zeros (drop u.octets u.kept)) (kept_reads u (reading_in frame)) frame_rest)
 
     frame_is : (reading_in frame ≡ good (msg (kept_of u)) 0) × (ids_of (kept_of u) ≡ ids_in u)
-    frame_is = kept_msg u eight (reading_in frame) (right (zeros (drop u.octets u.kept)) (kept_reads u (reading_in frame)) frame-rest) refl
+    frame_is = kept_msg u eight (reading_in frame) (right (zeros (drop u.octets u.kept)) (kept_reads u (reading_in frame)) frame_rest) refl
 
     -- the kept frame is one that may be written, and its octets are those that are kept
     pub kept_allowed : Allowed (msg_message (kept_of u))
@@ -261,12 +261,12 @@ module _ (u : Value) (s : sound_of u ≡ true) (wide : length u.name ≡ 32) (ei
 
     multi_picture : u ≡ picture (setup_of u) (multi u.terms (kept_of u) u.elapsed)
     multi_picture =
-        let l : u.octets ≡ length frame = sym (length-take-le u.octets u.kept (omega (arith, frame-octets))) in
+        let l : u.octets ≡ length frame = sym (length-take-le u.octets u.kept (omega (arith, frame_octets_lem))) in
         built u name_is (waiting_is ∙ ap (padded 8) (sym frame_is.1)) (frame_kept ∙ ap (padded 554) (sym kept_octets)) e refl refl letters_are
         (count_is ∙ ap length (sym frame_is.1)) (l ∙ ap length (sym kept_octets))
 
-  busy-picture : (k : ℕ) → (k ≡ 2 → ⊥) → u.state ≡ k → u ≡ pictured (setup_of u) k u.terms (ids_in u) [] u.elapsed
-  busy-picture k n e =
+  busy_picture : (k : ℕ) → (k ≡ 2 → ⊥) → u.state ≡ k → u ≡ pictured (setup_of u) k u.terms (ids_in u) [] u.elapsed
+  busy_picture k n e =
       let m : u.state ≡ 2 → ⊥ = λ z. n (sym e ∙ z) in
       built u name_is waiting_is (kept_is m) e refl refl letters_are count_is (octets_0 m)
 
@@ -278,10 +278,10 @@ module _ (u : Value) (s : sound_of u ≡ true) (wide : length u.name ≡ 32) (ei
 
   by_which : (k : ℕ) → k < 5 → u.state ≡ k → u ≡ picture (setup_of u) (state_at k u)
   by_which zero h e = idle_picture e
-  by_which (suc zero) h e = busy-picture 1 (λ z. omega arith) e
+  by_which (suc zero) h e = busy_picture 1 (λ z. omega arith) e
   by_which (suc (suc zero)) h e = multi_picture e
-  by_which (suc (suc (suc zero))) h e = busy-picture 3 (λ z. omega arith) e
-  by_which (suc (suc (suc (suc zero)))) h e = busy-picture 4 (λ z. omega arith) e
+  by_which (suc (suc (suc zero))) h e = busy_picture 3 (λ z. omega arith) e
+  by_which (suc (suc (suc (suc zero)))) h e = busy_picture 4 (λ z. omega arith) e
   by_which (suc (suc (suc (suc (suc k))))) h e = absurd (omega arith)
 
   whole : u ≡ picture (setup_of u) (state_of u)
@@ -291,7 +291,7 @@ module _ (u : Value) (s : sound_of u ≡ true) (wide : length u.name ≡ 32) (ei
   held : (k : ℕ) → u.state ≡ k → u.octets ≤ 554
   held zero e = omega (arith, octets_0 (λ z. omega arith))
   held (suc zero) e = omega (arith, octets_0 (λ z. omega arith))
-  held (suc (suc zero)) e = frame-octets e
+  held (suc (suc zero)) e = frame_octets_lem e
   held (suc (suc (suc k))) e = omega (arith, octets_0 (λ z. omega arith))
 
   pub ready : Ready u

@@ -52,8 +52,8 @@ unfolding closed
 closed_past w i h = rw (le-ltb i 8 h)
 
 -- closing up at i is closing up at i + 1 once the next entry is stored at i
-pub closed-step : {o : List ℕ} (w : List ℕ) (i : ℕ) → length w ≡ 8 → i < 7 → closed w i ≡ o → closed (set w i (get_or w (i + 1) 0)) (i + 1) ≡ o
-closed-step w i e h q =
+pub closed_step : {o : List ℕ} (w : List ℕ) (i : ℕ) → length w ≡ 8 → i < 7 → closed w i ≡ o → closed (set w i (get_or w (i + 1) 0)) (i + 1) ≡ o
+closed_step w i e h q =
     let h1 : i < length w = omega arith in
     let h2 : suc i < length w = omega arith in
     let z : closed (set w i (get_or w (i + 1) 0)) (i + 1) ≡ closed w i =

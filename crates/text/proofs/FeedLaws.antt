@@ -32,15 +32,15 @@ feed_second a b e = let h : b ≡ 10 = eqb-true b 10 (sym e) in rw h (never (ltb
 
 -- ---- the pairs at the front are the line's
 
-pub leading-cut : (s : List ℕ) → leading (take (to_feed s) s) ≡ leading s
+pub leading_cut : (s : List ℕ) → leading (take (to_feed s) s) ≡ leading s
 unfolding leading to_feed
-leading-cut [] = refl
-leading-cut (a ∷ []) = go (eqb a 10)
+leading_cut [] = refl
+leading_cut (a ∷ []) = go (eqb a 10)
   where
     go : (x : Bool) → leading (take (pick x 0 1) (a ∷ [])) ≡ []
     go true = refl
     go false = refl
-leading-cut (a ∷ (b ∷ s)) = go (leading-cut s) (eqb a 10) (eqb b 10) refl refl
+leading_cut (a ∷ (b ∷ s)) = go (leading_cut s) (eqb a 10) (eqb b 10) refl refl
   where
     go : leading (take (to_feed s) s) ≡ leading s → (x y : Bool) → x ≡ eqb a 10 → y ≡ eqb b 10
         → leading (take (pick x 0 (suc (pick y 0 (suc (to_feed s))))) (a ∷ (b ∷ s))) ≡ pick (digits a b) ((16 * value_of a + value_of b) ∷ leading s) []
@@ -107,12 +107,12 @@ module _ (s : List ℕ) (cap n end : ℕ) (full : cap ≡ 2048) (given : n ≡ l
   all : end ≡ 2 * n → n ≡ length (leading s)
   all e = omega (arith, few, fed, leading_fed s)
 
-  said-octets : end ≡ 2 * n → 0 < n → event_in (take (to_feed s) s) ≡ some (leading s)
+  said_octets : end ≡ 2 * n → 0 < n → event_in (take (to_feed s) s) ≡ some (leading s)
   unfolding event_in
-  said-octets e h =
+  said_octets e h =
       let k = all e in
       rw (
-        leading-cut s,
+        leading_cut s,
         long,
         lt-ltb 0 (to_feed s) (omega (arith, fed)),
         le-leb (to_feed s) 4096 (omega (arith, fed, short cap (length (leading s)) n full given)),
@@ -121,7 +121,7 @@ module _ (s : List ℕ) (cap n end : ℕ) (full : cap ≡ 2048) (given : n ≡ l
 
   said_none : (end ≡ 2 * n → n ≡ 0) → event_in (take (to_feed s) s) ≡ none
   unfolding event_in
-  said_none h = rw (leading-cut s, long) (go (ltb 0 k) refl (leb k 4096) refl (eqb (2 * length (leading s)) k) refl)
+  said_none h = rw (leading_cut s, long) (go (ltb 0 k) refl (leb k 4096) refl (eqb (2 * length (leading s)) k) refl)
     where
       k : ℕ
       k = to_feed s
@@ -140,9 +140,9 @@ module _ (s : List ℕ) (cap n end : ℕ) (full : cap ≡ 2048) (given : n ≡ l
       go true p true q true r =
           absurd (none_of (ltb-true 0 k (sym p)) (leb-true k 4096 (sym q)) (eqb-true (2 * length (leading s)) k (sym r)))
 
-  pub line-octets : end < length s → end ≡ 2 * n → 0 < n → Octets n (end + 1) ≡ line_in s
+  pub line_octets : end < length s → end ≡ 2 * n → 0 < n → Octets n (end + 1) ≡ line_in s
   unfolding line_in said
-  line-octets h e k = rw (lt-ltb (to_feed s) (length s) (omega (arith, fed)), said-octets e k, ← fed, ← all e)
+  line_octets h e k = rw (lt-ltb (to_feed s) (length s) (omega (arith, fed)), said_octets e k, ← fed, ← all e)
 
   pub line_refused : end < length s → (end ≡ 2 * n → n ≡ 0) → Refused (end + 1) ≡ line_in s
   unfolding line_in said

@@ -14,7 +14,7 @@ use Rattle.octets.specs.Choice.{pick, both}
 use Rattle.text.specs.Reading.{leading, to_feed, event_in, said, line_in}
 use Rattle.text.specs.declared.Line.{Line}
 use Rattle.text.specs.declared.Line.TheVariants.{Octets, Refused, Open}
-use Rattle.text.proofs.FeedLaws.{leading-cut}
+use Rattle.text.proofs.FeedLaws.{leading_cut}
 
 -- the octets of a line that is an event
 pub event_is : (line o : List ℕ) → event_in line ≡ some o → (o ≡ leading line) × (length o ≤ 2048)
@@ -51,7 +51,7 @@ pub found_octets : (i : List ℕ) (l : Line) → Found i l → (n next : ℕ) �
     → take n e ≡ leading i
 found_octets i l (octets o h f) n next q e₀ e w g =
     let k = event_is (take (to_feed i) i) o f in
-    let m : o ≡ leading i = k.0 ∙ leading-cut i in
+    let m : o ≡ leading i = k.0 ∙ leading_cut i in
     let c : n ≡ length o = cc in
     rw (g, c, sets-eq (leading i) e₀ 0 (omega (arith, k.1, ap length m)), m) (take-append_seam (leading i) _)
 found_octets i l (refused h f) n next q e₀ e w g = let z : ◌≡◌ {A = ℕ} 0 1 = cc in absurd (omega arith)

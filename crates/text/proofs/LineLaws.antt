@@ -115,8 +115,8 @@ least_within a b = go (ltb a b) refl
     go true e = omega arith
     go false e = let h = ltb-false a b (sym e) in omega arith
 
-pub least-room : (a b : ℕ) → a ≤ b → a ≡ least a b
-least-room a b h = go (ltb a b) refl
+pub least_room : (a b : ℕ) → a ≤ b → a ≡ least a b
+least_room a b h = go (ltb a b) refl
   where
     go : (t : Bool) → t ≡ ltb a b → a ≡ least a b
     go true e = least_first a b (ltb-true a b (sym e))
@@ -157,9 +157,9 @@ pub begun_start : (s b : List ℕ) → Begun s b b 0
 begun_start s b = record { wide = refl; held = refl; count = omega arith }
 
 module _ {s b e : List ℕ} {i : ℕ} (g : Begun s b e i) where
-  pub begun-step : (high low : ℕ) → 2 * i + 1 < length s → high ≡ value_of (get_or s (2 * i) 0) → low ≡ value_of (get_or s (2 * i + 1) 0) → high ≤ 15 → low ≤ 15
+  pub begun_step : (high low : ℕ) → 2 * i + 1 < length s → high ≡ value_of (get_or s (2 * i) 0) → low ≡ value_of (get_or s (2 * i + 1) 0) → high ≤ 15 → low ≤ 15
       → Begun s b (set e i (16 * high + low)) (i + 1)
-  begun-step high low h p q x y =
+  begun_step high low h p q x y =
       let l = leading_on s (2 * i) h (omega (arith, p)) (omega (arith, q)) in
       let n : 2 * (i + 1) ≡ 2 * i + 2 = omega arith in
       record {
@@ -176,9 +176,9 @@ module _ {s b e : List ℕ} {i : ℕ} (g : Begun s b e i) where
     held = rw l at g.held;
   }
 
-  pub begun-full : i ≡ length b → Whole s b e i
-  begun-full h = record {
-    count = h ∙ least-room (length b) (length (leading s)) (omega (arith, g.count));
+  pub begun_full : i ≡ length b → Whole s b e i
+  begun_full h = record {
+    count = h ∙ least_room (length b) (length (leading s)) (omega (arith, g.count));
     held = sym (sets_out (leading (drop (2 * i) s)) e i (omega (arith, g.wide))) ∙ g.held;
   }
 
@@ -186,7 +186,7 @@ module _ {s b e : List ℕ} {i : ℕ} (g : Begun s b e i) where
   begun_end p = go (leb (length b) i) refl
     where
       go : (t : Bool) → t ≡ leb (length b) i → Whole s b e i
-      go true q = let h = leb-true (length b) i (sym q) in begun-full (omega (arith, p.within))
+      go true q = let h = leb-true (length b) i (sym q) in begun_full (omega (arith, p.within))
       go false q =
           let h = leb-false (length b) i (sym q) in
           begun_stop p.within (leading_short s (2 * i) (p.over (λ z. omega arith)))

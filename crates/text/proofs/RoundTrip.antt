@@ -27,21 +27,21 @@ value_digit v h = go (ltb v 10) refl
         let m = to_f (87 + v) (omega arith) (omega arith) in
         rw (← digit_f v l) (omega arith)
 
-pub leading-digits : (xs : List ℕ) → ((i : ℕ) → get_or xs i 0 < 256) → leading (digits_of xs) ≡ xs
+pub leading_digits : (xs : List ℕ) → ((i : ℕ) → get_or xs i 0 < 256) → leading (digits_of xs) ≡ xs
 unfolding leading digits_of digits
-leading-digits [] h = refl
-leading-digits (x ∷ xs) h =
+leading_digits [] h = refl
+leading_digits (x ∷ xs) h =
     let s = h 0 in
     let a : x / 16 < 16 = omega arith in
     let b : x % 16 < 16 = omega arith in
     let e : 16 * (x / 16) + x % 16 ≡ x = omega arith in
-    rw (value_digit (x / 16) a, value_digit (x % 16) b, lt-ltb (x / 16) 16 a, lt-ltb (x % 16) 16 b, e, leading-digits xs (λ i. h (suc i)))
+    rw (value_digit (x / 16) a, value_digit (x % 16) b, lt-ltb (x / 16) 16 a, lt-ltb (x % 16) 16 b, e, leading_digits xs (λ i. h (suc i)))
 
 pub reads_back : (xs : List ℕ) → ((i : ℕ) → get_or xs i 0 < 256) → 0 < length xs → length xs ≤ 2048 → event_in (digits_of xs) ≡ some xs
 unfolding event_in
 reads_back xs h n m =
     rw (
-      leading-digits xs h,
+      leading_digits xs h,
       digits_long xs,
       lt-ltb 0 (2 * length xs) (omega arith),
       le-leb (2 * length xs) 4096 (omega arith),

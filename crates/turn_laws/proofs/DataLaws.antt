@@ -25,7 +25,7 @@ use Rattle.book.specs.declared.Turn.{Turn}
 use Rattle.book.specs.declared.Verdict.TheVariants.{Done}
 use Rattle.book.specs.declared.Found.{Found}
 use Rattle.book.specs.declared.Found.TheVariants.{Place, Nowhere}
-use Rattle.book.specs.Book.{Body, plain, sure, Kind, ok, Frame, msg, note, good, bad, give, answer, send, dat, State, idle, single, multi, ending, assoc, Setup, waiting_of, without, without_in, ack, ack-body, with_seen, noted, left_waiting, result_of, fall, on_dat}
+use Rattle.book.specs.Book.{Body, plain, sure, Kind, ok, Frame, msg, note, good, bad, give, answer, send, dat, State, idle, single, multi, ending, assoc, Setup, waiting_of, without, without_in, ack, ack_body, with_seen, noted, left_waiting, result_of, fall, on_dat}
 use Rattle.book.specs.View.{needed, body_in, reading_in, frame_octets, msg_octets, frame_at, kind_for}
 use Rattle.book.specs.Lines.{terms_octets, result_number}
 use Rattle.book.specs.Turns.{takes}
@@ -65,10 +65,10 @@ ack_fields : (a : Note) (m : Message) (name : List ℕ) → a.multi_shot ≡ m.m
     note_frame a name ≡ note ok (needed m.message_identifier) none name (record { maintained = m.multi_shot; type = m.message_type; user_data = none })
 ack_fields a m name es et er ec = rw (es, et, er, ec)
 
-pub ack-octets : (s : Setup) (f : List ℕ) (h : Header) (a : Note) → AckOf f h a →
+pub ack_octets : (s : Setup) (f : List ℕ) (h : Header) (a : Note) → AckOf f h a →
     note_octets a s.name ≡ frame_octets (ack s (needed (message_at f h).message_identifier) (body_in (message_at f h)))
-unfolding note_octets ack ack-body
-ack-octets s f h a k = ap frame_octets (ack_fields a (message_at f h) s.name k.shot k.type k.reference k.confirmation)
+unfolding note_octets ack ack_body
+ack_octets s f h a k = ap frame_octets (ack_fields a (message_at f h) s.name k.shot k.type k.reference k.confirmation)
 
 -- ---- where a reference stands
 
@@ -229,7 +229,7 @@ module _ {u : Value} (k : Ready u) {f : List ℕ} {h : Header} {n : ℕ} (w : Re
       turned_as (ap (λ (g : Frame). on_dat S (good g n) T) (sure_view M c))
       (went (sure_assoc S u T k.whole z _ _ _ _ n) e
       (ap (λ l. seen_lines n ++ ((0x21 ∷ (terms_octets u.terms ++ l)) ∷ (0x32 ∷ note_octets a S.name) ∷ [])) (sym (sure_octets f h w c))
-      ∙ ap (λ l. seen_lines n ++ ((0x21 ∷ (terms_octets u.terms ++ msg_octets (sure_in M))) ∷ (0x32 ∷ l) ∷ [])) (ack-octets S f h a g)
+      ∙ ap (λ l. seen_lines n ++ ((0x21 ∷ (terms_octets u.terms ++ msg_octets (sure_in M))) ∷ (0x32 ∷ l) ∷ [])) (ack_octets S f h a g)
       ∙ seen_first n (give u.terms (sure_in M) ∷ send (dat (good (ack S (needed M.message_identifier) (body_in M)) 0)) ∷ []))
       (and_then x (and_then y l)) q)
 

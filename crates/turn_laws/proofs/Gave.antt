@@ -75,9 +75,9 @@ say_uncertain m = record { result = 2; multi_shot = m; confirmation = 4 }
 abbrev pub say_failed : Say
 say_failed = record { result = 1; multi_shot = true; confirmation = 3 }
 
-local-line : (s : Setup) (m : Bool) (i : ℕ) → line_of (answer i uncertain (local s m unknown i)) ≡ answer_line (say_uncertain m) s.name i
+local_line : (s : Setup) (m : Bool) (i : ℕ) → line_of (answer i uncertain (local s m unknown i)) ≡ answer_line (say_uncertain m) s.name i
 unfolding local note_octets
-local-line s m i = refl
+local_line s m i = refl
 
 failed_line : (s : Setup) (i : ℕ) → line_of (answer i failed (local s true not_ok i)) ≡ answer_line say_failed s.name i
 unfolding local note_octets
@@ -86,7 +86,7 @@ failed_line s i = refl
 pub unsure_lines : (s : Setup) (m : Bool) (w : List ℕ) → map (answer_line (say_uncertain m) s.name) w ≡ said (unsure s m w [])
 unfolding unsure
 unsure_lines s m [] = refl
-unsure_lines s m (i ∷ w) = rw (local-line s m i, unsure_lines s m w)
+unsure_lines s m (i ∷ w) = rw (local_line s m i, unsure_lines s m w)
 
 pub failed_lines : (s : Setup) (w : List ℕ) (rest : List Out) → map (answer_line say_failed s.name) w ++ said rest ≡ said (refuse_all s w rest)
 unfolding refuse_all

@@ -45,9 +45,9 @@ append-padded w i h =
     let a : 8 - length w ≡ suc (8 - length (w ++ (i ∷ []))) = omega arith in
     rw (a, set-append_seam w 0 (replicate (8 - length (w ++ (i ∷ []))) 0) i) (simp append_assoc)
 
-closed-padded : (w : List ℕ) (i : ℕ) → i < length w → length w ≤ 8 → closed (padded 8 w) i ≡ padded 8 (take i w ++ drop (suc i) w)
+closed_padded : (w : List ℕ) (i : ℕ) → i < length w → length w ≤ 8 → closed (padded 8 w) i ≡ padded 8 (take i w ++ drop (suc i) w)
 unfolding padded closed
-closed-padded w i h l =
+closed_padded w i h l =
     let a : length (take i w) ≡ i = length-take-le i w (omega arith) in
     let b = length-append (take i w) (drop (suc i) w) in
     let c = length-drop (suc i) w in
@@ -146,12 +146,12 @@ module _ (s : Setup) (T : Terms) (w : List ℕ) (t : ℕ) where
   pub removed_assoc : (u : Value) (i : ℕ) → u ≡ picture s (assoc T w t) → i < length w → length w ≤ 8 →
       removed (rested u) i ≡ picture s (assoc T (take i w ++ drop (suc i) w) 0)
   unfolding advanced rested waiting_with
-  removed_assoc u i e h l = rw (e, closed-padded w i h l, fewer_length w i h)
+  removed_assoc u i e h l = rw (e, closed_padded w i h l, fewer_length w i h)
 
   pub removed_ending : (u : Value) (i : ℕ) → u ≡ picture s (ending T w t) → i < length w → length w ≤ 8 →
       removed (rested u) i ≡ picture s (ending T (take i w ++ drop (suc i) w) t)
   unfolding advanced rested waiting_with
-  removed_ending u i e h l = rw (e, closed-padded w i h l, fewer_length w i h)
+  removed_ending u i e h l = rw (e, closed_padded w i h l, fewer_length w i h)
 
 module _ (s : Setup) (a : Terms) (u : Value) (e : u ≡ picture s idle) where
   pub opened_assoc : entered u 4 a ≡ picture s (assoc a [] 0)

@@ -290,21 +290,21 @@ module _ {u : Value} (k : Ready u) {f : List ℕ} {h : Header} (w : Reads f h 0)
           ask_4 e = ap (λ o. on_multi o a M T) (bar_found ∙ ap (λ y. pick (found y) (some 4) (pick (leb 8 (length (ids_in u))) (some 5) none)) e) ∙ refused_is S u T k.whole n 4 a M
 
           module _ (e : g ≡ Nowhere) where
-            bar-full : bar a M T ≡ pick (leb 8 u.count) (some 5) none
+            bar_full : bar a M T ≡ pick (leb 8 u.count) (some 5) none
             unfolding found
-            bar-full =
+            bar_full =
                 bar_found ∙ ap (λ y. pick (found y) (some 4) (pick (leb 8 (length (ids_in u))) (some 5) none)) e
                 ∙ ap (λ y. pick (leb 8 y) (some 5) none) (length-take-le u.count u.waiting (omega arith))
 
             pub ask_5 : 8 ≤ u.count → on_multi (bar a (msg_at f h) (state_of u)) a (msg_at f h) (state_of u) ≡ refused 5
-            ask_5 l = ap (λ o. on_multi o a M T) (bar-full ∙ ap (λ y. pick y (some 5) none) (le-leb 8 u.count l)) ∙ refused_is S u T k.whole n 5 a M
+            ask_5 l = ap (λ o. on_multi o a M T) (bar_full ∙ ap (λ y. pick y (some 5) none) (le-leb 8 u.count l)) ∙ refused_is S u T k.whole n 5 a M
 
             pub asked_next_sure : {v x : Value} {r : Turn} {before after : List ℕ} {p : Pen} → u.count < 8
                 → Laid before fresh ((0x32 ∷ bare_to f h.end) ∷ []) after p → v ≡ advanced u 4 0 → x ≡ appended v id
                 → r ≡ record { unit = x; verdict = Done p.lines p.at }
                 → Turned u (on_multi (bar a (msg_at f h) (state_of u)) a (msg_at f h) (state_of u)) before r after
             asked_next_sure l y ev ex q =
-                turned_as (ap (λ o. on_multi o a M T) (bar-full ∙ ap (λ y. pick y (some 5) none) (lt-leb 8 u.count l)))
+                turned_as (ap (λ o. on_multi o a M T) (bar_full ∙ ap (λ y. pick y (some 5) none) (lt-leb 8 u.count l)))
                 (went (next_sure S u T k.whole n l a M id id_is) (ex ∙ ap (λ z. appended z id) ev) (line_is (omega arith)) y q)
 
 -- ---- by the turn table
@@ -337,10 +337,10 @@ module _ {u : Value} (k : Ready u) where
 
 -- ---- from the octets
 
-vet-extended : (c : Bool) (f : Frame) (n : ℕ) → (n ≡ 0 → ⊥) → vet c (good f n) ≡ none
+vet_extended : (c : Bool) (f : Frame) (n : ℕ) → (n ≡ 0 → ⊥) → vet c (good f n) ≡ none
 unfolding vet
-vet-extended c f zero z = absurd (z refl)
-vet-extended c f (suc n) z = refl
+vet_extended c f zero z = absurd (z refl)
+vet_extended c f (suc n) z = refl
 
 -- the confirmation that a request wants, and every other
 vet_no : (c : Bool) (k : ℕ) (m : Message) → (k ≡ weight c 1 → ⊥) → vet c (good (viewed_as k m) 0) ≡ none
@@ -368,9 +368,9 @@ module _ (u : Value) (confirmed : Bool) (a : Terms) (f : List ℕ) {x : Answer} 
     unfolding on_request
     reading_is = ap (λ y. on_vetted a (vet confirmed y) (state_of u)) (whole_reading f h n q e)
 
-    pub ask-extended : (n ≡ 0 → ⊥) → on_request confirmed a (reading_in f) (state_of u) ≡ refused 2
+    pub ask_extended : (n ≡ 0 → ⊥) → on_request confirmed a (reading_in f) (state_of u) ≡ refused 2
     unfolding on_vetted
-    ask-extended z = reading_is ∙ ap (λ y. on_vetted a y (state_of u)) (vet-extended confirmed (frame_at f h) n z)
+    ask_extended z = reading_is ∙ ap (λ y. on_vetted a y (state_of u)) (vet_extended confirmed (frame_at f h) n z)
 
     module _ (z : n ≡ 0) {k : ℕ} (ek : k ≡ weight confirmed 1) where
       zero_is : on_request confirmed a (reading_in f) (state_of u) ≡ on_vetted a (vet confirmed (good (frame_at f h) 0)) (state_of u)

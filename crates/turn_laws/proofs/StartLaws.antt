@@ -22,7 +22,7 @@ use Rattle.book.specs.declared.Terms.{Terms}
 use Rattle.book.specs.declared.Unit.{Unit as Value}
 use Rattle.book.specs.declared.Turn.{Turn}
 use Rattle.book.specs.declared.Verdict.TheVariants.{Done}
-use Rattle.book.specs.Book.{Frame, msg, Reading, good, bad, Out, give, answer, send, reply, dat, cut, gone, State, idle, single, multi, ending, assoc, Setup, done, ids_of, waiting_of, body_of, ack, with_seen, fall, greet, first_contact, on_start, result_of, single_result, answered-by, refuse_all, begun, on_reply, local}
+use Rattle.book.specs.Book.{Frame, msg, Reading, good, bad, Out, give, answer, send, reply, dat, cut, gone, State, idle, single, multi, ending, assoc, Setup, done, ids_of, waiting_of, body_of, ack, with_seen, fall, greet, first_contact, on_start, result_of, single_result, answered_by, refuse_all, begun, on_reply, local}
 use Rattle.book.specs.View.{needed, body_in, viewed_as, viewed, reading_in, frame_octets, msg_octets, frame_message, frame_at}
 use Rattle.book.specs.Lines.{terms_octets, result_number}
 use Rattle.book.specs.Turns.{takes}
@@ -39,7 +39,7 @@ use Rattle.said.specs.Saying.{said, fresh, maintains, seen_lines, greeted}
 use Rattle.said.proofs.PenLaws.{laid_none, and_then}
 use Rattle.turn_laws.proofs.Moved.{not_taken, take-padded, ids_are, opened_assoc, begun_assoc}
 use Rattle.turn_laws.proofs.Gave.{Goes, went, gave, turned_as, seen_first, say_uncertain, say_failed, failed_lines, cleared_idle}
-use Rattle.turn_laws.proofs.DataLaws.{ack-octets}
+use Rattle.turn_laws.proofs.DataLaws.{ack_octets}
 
 -- ---- "frame or nothing"
 
@@ -116,9 +116,9 @@ module _ {u : Value} (k : Ready u) where
   start_idle t = state_0 S u T k.whole t
 
   -- ---- the ways out of 10
-  pub cut-made : (n : ℕ) {r : Turn} {before mid after : List ℕ} {p q : Pen} → u.state ≡ 0 → Laid before fresh (seen_lines n) mid p → Laid mid p ((0x35 ∷ 10 ∷ []) ∷ []) after q
+  pub cut_made : (n : ℕ) {r : Turn} {before mid after : List ℕ} {p q : Pen} → u.state ≡ 0 → Laid before fresh (seen_lines n) mid p → Laid mid p ((0x35 ∷ 10 ∷ []) ∷ []) after q
       → r ≡ record { unit = u; verdict = Done q.lines q.at } → Turned u (done idle (with_seen n (send (cut 10) ∷ []))) before r after
-  cut-made n z x y q = gave refl (idle_value z) (seen_first n (send (cut 10) ∷ [])) (and_then x y) q
+  cut_made n z x y q = gave refl (idle_value z) (seen_first n (send (cut 10) ∷ [])) (and_then x y) q
 
   pub fault_made : {reason : ℕ} {r : Turn} {before after : List ℕ} {p : Pen} → u.state ≡ 0 → Laid before fresh ((0x35 ∷ reason ∷ []) ∷ []) after p
       → r ≡ record { unit = u; verdict = Done p.lines p.at } → Turned u (done idle (send (cut reason) ∷ [])) before r after
@@ -146,7 +146,7 @@ module _ {u : Value} (k : Ready u) where
         let d : h.confirmation ≡ 1 = omega arith in
         gave (greeted_sure S a f h n d m) (idle_value z)
         (ap (λ l. seen_lines n ++ ((0x21 ∷ (terms_octets a ++ l)) ∷ (0x31 ∷ 1 ∷ note_octets g S.name) ∷ [])) (sym (sure_octets f h w d))
-        ∙ ap (λ l. seen_lines n ++ ((0x21 ∷ (terms_octets a ++ msg_octets (sure_in (message_at f h)))) ∷ (0x31 ∷ 1 ∷ l) ∷ [])) (ack-octets S f h g v)
+        ∙ ap (λ l. seen_lines n ++ ((0x21 ∷ (terms_octets a ++ msg_octets (sure_in (message_at f h)))) ∷ (0x31 ∷ 1 ∷ l) ∷ [])) (ack_octets S f h g v)
         ∙ seen_first n (give a (sure_in (message_at f h)) ∷ send (reply false (some (good (ack S (needed (message_at f h).message_identifier) (body_in (message_at f h))) 0))) ∷ []))
         (and_then x (and_then y o)) q
 
@@ -182,7 +182,7 @@ single_number (suc (suc (suc (suc n)))) m = rw (ne_eqb (suc (suc (suc (suc n))))
 module _ (s : Setup) (u : Value) where
   -- nobody waits
   answer_none : (st : State) → u ≡ picture s st → u.state ≡ 1 → u.count ≡ 0 → (o : Option Reading) → on_reply s false o st ≡ done idle []
-  unfolding on_reply answered-by
+  unfolding on_reply answered_by
   answer_none idle e n c o = let z : ◌≡◌ {A = ℕ} 0 1 = rw e at n in absurd (omega arith)
   answer_none (multi T k t) e n c o = let z : ◌≡◌ {A = ℕ} 2 1 = rw e at n in absurd (omega arith)
   answer_none (ending T w t) e n c o = let z : ◌≡◌ {A = ℕ} 3 1 = rw e at n in absurd (omega arith)
@@ -192,8 +192,8 @@ module _ (s : Setup) (u : Value) where
 
   -- one waits: what is said to it when no valid frame came
   answer_unsure : (st : State) → u ≡ picture s st → u.state ≡ 1 → 1 ≤ u.count →
-      (on_reply s false none st ≡ done idle (answered-by s (waiting_of st) none)) × (map (answer_line (say_uncertain false) s.name) (take 1 u.waiting) ≡ said (answered-by s (waiting_of st) none))
-  unfolding on_reply answered-by waiting_of padded local note_octets
+      (on_reply s false none st ≡ done idle (answered_by s (waiting_of st) none)) × (map (answer_line (say_uncertain false) s.name) (take 1 u.waiting) ≡ said (answered_by s (waiting_of st) none))
+  unfolding on_reply answered_by waiting_of padded local note_octets
   answer_unsure idle e n c = let z : ◌≡◌ {A = ℕ} 0 1 = rw e at n in absurd (omega arith)
   answer_unsure (multi T k t) e n c = let z : ◌≡◌ {A = ℕ} 2 1 = rw e at n in absurd (omega arith)
   answer_unsure (ending T w t) e n c = let z : ◌≡◌ {A = ℕ} 3 1 = rw e at n in absurd (omega arith)
@@ -204,7 +204,7 @@ module _ (s : Setup) (u : Value) where
   -- a valid frame came
   answer_by : (st : State) → u ≡ picture s st → u.state ≡ 1 → 1 ≤ u.count → (g : Frame) (n : ℕ) →
       (i : ℕ) × (on_reply s false (some (good g n)) st ≡ done idle (with_seen n (answer i (single_result g) g ∷ [])))
-  unfolding on_reply answered-by
+  unfolding on_reply answered_by
   answer_by idle e z c g n = let y : ◌≡◌ {A = ℕ} 0 1 = rw e at z in absurd (omega arith)
   answer_by (multi T k t) e z c g n = let y : ◌≡◌ {A = ℕ} 2 1 = rw e at z in absurd (omega arith)
   answer_by (ending T w t) e z c g n = let y : ◌≡◌ {A = ℕ} 3 1 = rw e at z in absurd (omega arith)
@@ -214,7 +214,7 @@ module _ (s : Setup) (u : Value) where
 
   -- a faulty frame is as good as none
   answer_bad : (st : State) → u ≡ picture s st → u.state ≡ 1 → (n : ℕ) → on_reply s false (some (bad n)) st ≡ on_reply s false none st
-  unfolding on_reply answered-by
+  unfolding on_reply answered_by
   answer_bad idle e z n = refl
   answer_bad (multi T k t) e z n = refl
   answer_bad (ending T w t) e z n = refl
@@ -252,13 +252,13 @@ module _ (s : Setup) (u : Value) where
     rw (e, take-padded 554 (msg_octets k)),
   )
 
-  begun-octets : (st : State) → u ≡ picture s st → u.state ≡ 2 → (o : Reading) → on_reply s true (some o) st ≡ fall s (maintains st) (waiting_of st) 10
+  begun_octets : (st : State) → u ≡ picture s st → u.state ≡ 2 → (o : Reading) → on_reply s true (some o) st ≡ fall s (maintains st) (waiting_of st) 10
   unfolding on_reply begun waiting_of
-  begun-octets idle e n o = let z : ◌≡◌ {A = ℕ} 0 2 = rw e at n in absurd (omega arith)
-  begun-octets (single T w t) e n o = let z : ◌≡◌ {A = ℕ} 1 2 = rw e at n in absurd (omega arith)
-  begun-octets (ending T w t) e n o = let z : ◌≡◌ {A = ℕ} 3 2 = rw e at n in absurd (omega arith)
-  begun-octets (assoc T w t) e n o = let z : ◌≡◌ {A = ℕ} 4 2 = rw e at n in absurd (omega arith)
-  begun-octets (multi T k t) e n o = refl
+  begun_octets idle e n o = let z : ◌≡◌ {A = ℕ} 0 2 = rw e at n in absurd (omega arith)
+  begun_octets (single T w t) e n o = let z : ◌≡◌ {A = ℕ} 1 2 = rw e at n in absurd (omega arith)
+  begun_octets (ending T w t) e n o = let z : ◌≡◌ {A = ℕ} 3 2 = rw e at n in absurd (omega arith)
+  begun_octets (assoc T w t) e n o = let z : ◌≡◌ {A = ℕ} 4 2 = rw e at n in absurd (omega arith)
+  begun_octets (multi T k t) e n o = refl
 
   turned_is : (st : State) → u ≡ picture s st → u.state ≡ 2 → (o : Option Reading) → on_reply s false o st ≡ done idle (refuse_all s (waiting_of st) (gone 3 ∷ []))
   unfolding on_reply waiting_of
@@ -337,7 +337,7 @@ module _ {u : Value} (k : Ready u) where
     pub multi_octets : u.state ≡ 2 → b ≡ true → (length f ≡ 0 → ⊥) → Turned u (fall (setup_of u) (maintains (state_of u)) (waiting_of (state_of u)) 10) before r after →
         Turned u (on_reply (setup_of u) b (or_nothing f) (state_of u)) before r after
     multi_octets n e z g =
-        turned_as (ap (λ (y : Bool). on_reply S₂ y (or_nothing f) T₂) e ∙ ap (λ o. on_reply S₂ true o T₂) (frame_is f z) ∙ begun-octets S₂ u T₂ k.whole n _) g
+        turned_as (ap (λ (y : Bool). on_reply S₂ y (or_nothing f) T₂) e ∙ ap (λ o. on_reply S₂ true o T₂) (frame_is f z) ∙ begun_octets S₂ u T₂ k.whole n _) g
 
     pub multi_rejected : u.state ≡ 2 → b ≡ false → Turned u (on_reply (setup_of u) false none (state_of u)) before r after →
         Turned u (on_reply (setup_of u) b (or_nothing f) (state_of u)) before r after

@@ -62,7 +62,7 @@ module _ (room : ℕ) (u : Value) (ev : List ℕ) where
   unfolding step
   step_unsound h q z = rw (le-ltb room 1024 h, sym q ∙ z)
 
-  pub step-does : 1024 ≤ room → {b : Bool} → b ≡ sound_of u → b ≡ true → {e : Event} → e ≡ event_of ev →
+  pub step_does : 1024 ≤ room → {b : Bool} → b ≡ sound_of u → b ≡ true → {e : Event} → e ≡ event_of ev →
       step room u ev ≡ does (setup_of u) e (drop (frame_from e) ev) (state_of u)
   unfolding step
-  step-does h q z g = rw (le-ltb room 1024 h, sym q ∙ z, g)
+  step_does h q z g = rw (le-ltb room 1024 h, sym q ∙ z, g)

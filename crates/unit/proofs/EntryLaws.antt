@@ -24,7 +24,7 @@ use Rattle.book.specs.Ready.{Ready}
 use Rattle.unit.specs.Vetting.{column_of, Vetted}
 use Rattle.unit.specs.UserData.{user_data_of}
 use Rattle.turn_laws.proofs.Moved.{not_taken}
-use Rattle.turn_laws.proofs.StepLaws.{step_small, step_unsound, step-does}
+use Rattle.turn_laws.proofs.StepLaws.{step_small, step_unsound, step_does}
 
 -- ---- THE TURN TABLE AND THE RULE BOOK: an event that the table doesn't take is refused with 1 by the rule book
 
@@ -112,13 +112,13 @@ module _ (room : ℕ) (u : Value) (e : Event) where
       → Vetted room u e 1
   vetted_no h q z k ec et f = record {
     clear = λ y. absurd (omega arith);
-    refuses = λ y ev x. step-does room u ev h q z x ∙ acts_no k e (drop (frame_from e) ev) ec et f;
+    refuses = λ y ev x. step_does room u ev h q z x ∙ acts_no k e (drop (frame_from e) ev) ec et f;
   }
 
   pub vetted_yes : 1024 ≤ room → {b : Bool} → b ≡ sound_of u → b ≡ true → Ready u → {c : ℕ} {t : Bool} → c ≡ column_of e → t ≡ takes u.state c → t ≡ true
       → Vetted room u e 0
   vetted_yes h q z k ec et f = record {
-    clear = λ y. record { ready = k; taken = acts_yes u e ec et f; space = h; steps = λ ev x. step-does room u ev h q z x };
+    clear = λ y. record { ready = k; taken = acts_yes u e ec et f; space = h; steps = λ ev x. step_does room u ev h q z x };
     refuses = λ y. absurd (omega arith);
   }
 

@@ -119,7 +119,7 @@ fn on_multi(u: Unit, a: Terms, frame: &[u8], h: Header, out: &mut [u8]) -> Turn
     on_next(u, a, frame, h, out)
 }
 
-// A request whose frame is right: refusal 1, or what its multi_shot bit asks.
+// A request whose frame is right: refusal 1, or what its multiShot bit asks.
 fn on_vetted(u: Unit, a: Terms, frame: &[u8], h: Header, out: &mut [u8]) -> Turn
     requires { (Ready u) × ((Reads frame.now h 0) × ((h.confirmation < 2) × (1024 ≤ length out.old))) }
     ensures { Turned u (on_shot h.multi_shot a (msg_at frame.now h) (state_of u)) out.old result out.new }

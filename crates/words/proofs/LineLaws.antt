@@ -15,7 +15,7 @@ use Rattle.octets.proofs.Puts as Puts
 use Rattle.text.specs.Reading.{leading, to_feed, feed_from, event_in, line_in}
 use Rattle.text.specs.declared.Line.{Line}
 use Rattle.text.specs.declared.Line.TheVariants.{Octets, Refused, Open}
-use Rattle.text.proofs.FeedLaws.{leading-cut}
+use Rattle.text.proofs.FeedLaws.{leading_cut}
 use Rattle.text.proofs.Found.{event_is, Found, octets, refused, unended, found, found_octets}
 use Rattle.words.specs.Lines.{no_digits, line_words, begins, frame_word, frame_line, explained}
 use Rattle.words.specs.Feeding.{Taken, heard, passing_over, not_ended, line_taken, most, finishing}
@@ -44,8 +44,8 @@ quiet s i = go (either s.passing (ltb 4102 (length i)))
     go false = refl
 
 -- it prints nothing
-pub left-takes : (s : Reader) (i out : List ℕ) (at : ℕ) (r : Fed) → line_taken s i ≡ not_ended s i → r ≡ left_at (not_ended s i) at → Takes (line_taken s i) out at out r
-left-takes s i out at r e f =
+pub left_takes : (s : Reader) (i out : List ℕ) (at : ℕ) (r : Fed) → line_taken s i ≡ not_ended s i → r ≡ left_at (not_ended s i) at → Takes (line_taken s i) out at out r
+left_takes s i out at r e f =
     rw (e, f) (record { reader = refl; taken = refl; put = Puts.put_as (sym (quiet s i)) (Puts.none out at); small = omega arith })
 
 -- ---- a line that is passed over
@@ -74,11 +74,11 @@ no_feed [] = true
 no_feed (c ∷ w) = both (not (eqb c 10)) (no_feed w)
 
 -- a word without a line feed stands at the front of the line where it stands at the front of the input
-begins-cut : (w i : List ℕ) → no_feed w ≡ true → begins w (take (to_feed i) i) ≡ begins w i
+begins_cut : (w i : List ℕ) → no_feed w ≡ true → begins w (take (to_feed i) i) ≡ begins w i
 unfolding begins to_feed
-begins-cut [] i f = refl
-begins-cut (c ∷ w) [] f = refl
-begins-cut (c ∷ w) (d ∷ i) f = go (eqb d 10) refl (eqb c 10) refl f (begins-cut w i)
+begins_cut [] i f = refl
+begins_cut (c ∷ w) [] f = refl
+begins_cut (c ∷ w) (d ∷ i) f = go (eqb d 10) refl (eqb c 10) refl f (begins_cut w i)
   where
     differs : (b : Bool) → b ≡ eqb d c → eqb d 10 ≡ true → eqb c 10 ≡ false → false ≡ both b (begins w i)
     differs false e p q = refl
@@ -121,12 +121,12 @@ after_word (c ∷ w) (d ∷ i) f b = go (eqb d c) refl (eqb c 10) refl f b (afte
 
 module _ (s : Reader) (i : List ℕ) (p : false ≡ s.passing) (b : false ≡ begins frame_word i) where
   other : begins frame_word (take (to_feed i) i) ≡ false
-  other = begins-cut frame_word i refl ∙ sym b
+  other = begins_cut frame_word i refl ∙ sym b
 
   taken_octets : (l : Line) → Found i l → (n next : ℕ) → l ≡ Octets n next → line_taken s i ≡ heard s next (line_words (leading i))
   unfolding line_taken explained
   taken_octets l (octets o h f) n next q =
-      let m : o ≡ leading i = (event_is (take (to_feed i) i) o f).0 ∙ leading-cut i in
+      let m : o ≡ leading i = (event_is (take (to_feed i) i) o f).0 ∙ leading_cut i in
       let d : next ≡ to_feed i + 1 = cc in
       rw (lt-ltb (to_feed i) (length i) h, ← p, other, f, m, d)
   taken_octets l (refused h f) n next q = let z : ◌≡◌ {A = ℕ} 0 1 = cc in absurd (omega arith)
@@ -159,7 +159,7 @@ module _ (s : Reader) (i : List ℕ) (p : false ≡ s.passing) (b : false ≡ be
 
 module _ (s : Reader) (i : List ℕ) (p : false ≡ s.passing) (b : true ≡ begins frame_word i) where
   bare : begins frame_word (take (to_feed i) i) ≡ true
-  bare = begins-cut frame_word i refl ∙ sym b
+  bare = begins_cut frame_word i refl ∙ sym b
 
   cut : After 6 i
   cut = after_word frame_word i refl (sym b)
@@ -167,7 +167,7 @@ module _ (s : Reader) (i : List ℕ) (p : false ≡ s.passing) (b : true ≡ beg
   framed_octets : (l : Line) → Found (drop 6 i) l → (n next : ℕ) → l ≡ Octets n next → line_taken s i ≡ heard s (next + 6) (frame_line (leading (drop 6 i)))
   unfolding line_taken explained
   framed_octets l (octets o h f) n next q =
-      let m : o ≡ leading (drop 6 i) = (event_is (take (to_feed (drop 6 i)) (drop 6 i)) o f).0 ∙ leading-cut (drop 6 i) in
+      let m : o ≡ leading (drop 6 i) = (event_is (take (to_feed (drop 6 i)) (drop 6 i)) o f).0 ∙ leading_cut (drop 6 i) in
       let d : next ≡ to_feed (drop 6 i) + 1 = cc in
       let e : to_feed i + 1 ≡ next + 6 = omega (arith, cut.feed) in
       let g : event_in (drop 6 (take (to_feed i) i)) ≡ some o = ap event_in cut.rest ∙ f in
@@ -205,8 +205,8 @@ module _ (s : Reader) (i : List ℕ) (p : false ≡ s.passing) (b : true ≡ beg
     is : r ≡ line_in (drop 6 i)
     is = l.line ∙ ap line_in k
 
-    pub bare-octets : (n next : ℕ) → r ≡ Octets n next → (o : List ℕ) → o ≡ take n e → line_taken s i ≡ heard s (next + 6) (frame_line o)
-    bare-octets n next q o f =
+    pub bare_octets : (n next : ℕ) → r ≡ Octets n next → (o : List ℕ) → o ≡ take n e → line_taken s i ≡ heard s (next + 6) (frame_line o)
+    bare_octets n next q o f =
         framed_octets (line_in (drop 6 i)) (found (drop 6 i)) n next (sym is ∙ q)
         ∙ ap (λ x. heard s (next + 6) (frame_line x)) (sym (f ∙ l.octets n next q ∙ ap leading k))
 

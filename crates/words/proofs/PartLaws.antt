@@ -61,9 +61,9 @@ module _ (s : List ℕ) where
     unfolding is_pair
     pair_low h {a} p l = rw (eq-eqb (length s) 2 h, ← p, lt-leb first a l)
 
-    pub pair-rest : length s ≡ 2 → {a : ℕ} → a ≡ get_or s 1 0 → first ≤ a → leb a last ≡ is_pair first last s
+    pub pair_rest : length s ≡ 2 → {a : ℕ} → a ≡ get_or s 1 0 → first ≤ a → leb a last ≡ is_pair first last s
     unfolding is_pair
-    pair-rest h {a} p l = rw (eq-eqb (length s) 2 h, ← p, le-leb first a l)
+    pair_rest h {a} p l = rw (eq-eqb (length s) 2 h, ← p, le-leb first a l)
 
   pub led_short : (last : ℕ) → length s < 2 → false ≡ is_led last s
   unfolding is_led
@@ -101,6 +101,6 @@ module _ (s w : List ℕ) (i : ℕ) (e : begins (drop i w) (drop i s) ≡ begins
       = rw (drop-cons w i 0 h, drop-cons s i 0 l, eq-eqb (get_or s i 0) (get_or w i 0) q) in
       rw add-one (sym g ∙ e))
 
-  pub begins-whole : length w ≤ i → true ≡ begins w s
+  pub begins_whole : length w ≤ i → true ≡ begins w s
   unfolding begins
-  begins-whole h = (let g : begins (drop i w) (drop i s) ≡ true = rw (drop_of_length-le w {i = i} h) in sym g ∙ e)
+  begins_whole h = (let g : begins (drop i w) (drop i s) ≡ true = rw (drop_of_length-le w {i = i} h) in sym g ∙ e)

@@ -121,8 +121,8 @@ long_passed m line (c ∷ more) h = go (long_passed m (line ++ (c ∷ [])) more)
 -- ---- one line
 
 -- what a line prints, and then what is still to come, is what was to come
-pub line-whole : (s : Reader) (i more : List ℕ) (t : Taken) → How s i t → whole s (i ++ more) ≡ t.text ++ whole t.reader (drop t.taken i ++ more)
-line-whole s i more t (ended h) = go s.passing refl
+pub line_whole : (s : Reader) (i more : List ℕ) (t : Taken) → How s i t → whole s (i ++ more) ≡ t.text ++ whole t.reader (drop t.taken i ++ more)
+line_whole s i more t (ended h) = go s.passing refl
   where
     answered : Bool → List ℕ
     answered p = line_text s.indented (pick p no_digits (explained (take (to_feed i) i))) ++ explanation_from s.indented [] (drop (to_feed i + 1) i ++ more)
@@ -130,22 +130,22 @@ line-whole s i more t (ended h) = go s.passing refl
     go : (p : Bool) → p ≡ s.passing → coming s.indented s.passing (i ++ more) ≡ answered s.passing
     go true e = rw (← e, over_split s.indented i more h)
     go false e = rw (← e, split s.indented [] i more h)
-line-whole s i more t (over h e) = go s.passing refl
+line_whole s i more t (over h e) = go s.passing refl
   where
     go : (p : Bool) → p ≡ s.passing → coming s.indented s.passing (i ++ more) ≡ passed s.indented (drop (length i) i ++ more)
     go true q = rw (← q, drop-length i, over_joined s.indented i more h)
     go false q =
         let l = ltb-true 4102 (length i) (rw (← q) at e) in
         rw (← q, drop-length i, joined s.indented [] i more h, long_passed s.indented i more l)
-line-whole s i more t (left h e k) = refl
+line_whole s i more t (left h e k) = refl
 
 -- ---- all lines for which there is room
 
-feeding-whole : (n room : ℕ) (s : Reader) (i more : List ℕ)
+feeding_whole : (n room : ℕ) (s : Reader) (i more : List ℕ)
     → whole s (i ++ more) ≡ (feeding n room s i).written ++ whole (feeding n room s i).reader (drop (feeding n room s i).taken i ++ more)
 unfolding feeding
-feeding-whole zero room s i more = refl
-feeding-whole (suc n) room s i more = go (ltb room most) (λ r. feeding-whole n r (line_taken s i).reader (drop (line_taken s i).taken i) more)
+feeding_whole zero room s i more = refl
+feeding_whole (suc n) room s i more = go (ltb room most) (λ r. feeding_whole n r (line_taken s i).reader (drop (line_taken s i).taken i) more)
   where
     t : Taken
     t = line_taken s i
@@ -159,7 +159,7 @@ feeding-whole (suc n) room s i more = go (ltb room most) (λ r. feeding-whole n 
         → whole s (i ++ more) ≡ (pick x (resting s) (then t f)).written ++ whole (pick x (resting s) (then t f)).reader (drop (pick x (resting s) (then t f)).taken i ++ more)
     go true again = refl
     go false again =
-        line-whole s i more t (how s i) ∙ ap (λ l. t.text ++ l) (again (room - length t.text))
+        line_whole s i more t (how s i) ∙ ap (λ l. t.text ++ l) (again (room - length t.text))
         ∙ sym (append_assoc t.text f.written _)
         ∙ ap (λ l. t.text ++ f.written ++ whole f.reader (l ++ more)) (drop-drop f.taken t.taken i)
 
@@ -170,17 +170,17 @@ abbrev last : Reader → (held : List ℕ) → List ℕ
 last s held = pick (either s.passing (ltb 0 (length held))) (line_text s.indented no_digits) []
 
 -- a line that takes nothing is open, and is the last
-left-last : (s : Reader) (held : List ℕ) (t : Taken) → How s held t → t.taken ≡ 0 → whole s held ≡ last s held
+left_last : (s : Reader) (held : List ℕ) (t : Taken) → How s held t → t.taken ≡ 0 → whole s held ≡ last s held
 unfolding explanation_from
-left-last s held t (ended h) e = absurd (omega arith)
-left-last s [] t (over h o) e = go s.passing o
+left_last s held t (ended h) e = absurd (omega arith)
+left_last s [] t (over h o) e = go s.passing o
   where
     go : (p : Bool) → either p (ltb 4102 0) ≡ true → coming s.indented p [] ≡ pick (either p (ltb 0 0)) (line_text s.indented no_digits) []
     go true k = refl
     go false k = absurd (subst T (sym k) tt)
-left-last s (c ∷ held) t (over h o) e = absurd (omega arith)
-left-last s [] t (left h p k) e = rw p
-left-last s (c ∷ held) t (left h p k) e =
+left_last s (c ∷ held) t (over h o) e = absurd (omega arith)
+left_last s [] t (left h p k) e = rw p
+left_last s (c ∷ held) t (left h p k) e =
     let j = joined s.indented [] (c ∷ held) [] h in
     rw (p, lt-ltb 0 (suc (length held)) (omega arith)) (ap (explanation_from s.indented []) (sym (append-nil (c ∷ held))) ∙ j)
 
@@ -193,7 +193,7 @@ none_last s [] room h e = go s.passing
     go false = refl
 none_last s (c ∷ held) room h e =
     let f = rw (le-ltb room most h) at e in
-    left-last s (c ∷ held) (line_taken s (c ∷ held)) (how s (c ∷ held)) (omega arith)
+    left_last s (c ∷ held) (line_taken s (c ∷ held)) (how s (c ∷ held)) (omega arith)
 
 finished_whole : (s : Reader) (held : List ℕ) (room end : ℕ) → most ≤ room → (feeding (length held) room s held).taken ≡ 0 → most ≤ end
     → finishing end s held ≡ whole s held
@@ -202,16 +202,16 @@ finished_whole s held room end h e k = rw (le-ltb end most k) (sym (none_last s 
 
 -- ---- the theorem
 
-pub run-whole : {s : Reader} {held input output : List ℕ} → Run s held input output → output ≡ whole s (held ++ input)
-run-whole (read {s} {held} {input} {output} block r) = run-whole r ∙ ap (whole s) (append_assoc held block input)
-run-whole (fed {s} {held} {input} {output} room r) =
-    ap (λ l. (feeding (length held) room s held).written ++ l) (run-whole r) ∙ sym (feeding-whole (length held) room s held input)
-run-whole (finished {s} {held} room end h e k) = finished_whole s held room end h e k ∙ ap (whole s) (sym (append-nil held))
+pub run_whole : {s : Reader} {held input output : List ℕ} → Run s held input output → output ≡ whole s (held ++ input)
+run_whole (read {s} {held} {input} {output} block r) = run_whole r ∙ ap (whole s) (append_assoc held block input)
+run_whole (fed {s} {held} {input} {output} room r) =
+    ap (λ l. (feeding (length held) room s held).written ++ l) (run_whole r) ∙ sym (feeding_whole (length held) room s held input)
+run_whole (finished {s} {held} room end h e k) = finished_whole s held room end h e k ∙ ap (whole s) (sym (append-nil held))
 
 -- any run of the program from its start writes the explanation of its input
 pub runs : (m : Bool) (input output : List ℕ) → Run (fresh m) [] input output → output ≡ explanation m input
 unfolding explanation
-runs m input output r = run-whole r
+runs m input output r = run_whole r
 
 -- ---- and a run there is, for every input: the theorem is not empty
 
@@ -232,8 +232,8 @@ drains (suc n) s held h = go (feeding (length held) most s held).taken refl (dra
         (omega (arith, length-drop (feeding (length held) most s held).taken held)) in
         record { output = (feeding (length held) most s held).written ++ r.output; run = fed most r.run }
 
-pub every-input : (m : Bool) (input : List ℕ) → Ran (fresh m) [] input
-every-input m input = begun (drains (length input) (fresh m) input (omega arith))
+pub every_input : (m : Bool) (input : List ℕ) → Ran (fresh m) [] input
+every_input m input = begun (drains (length input) (fresh m) input (omega arith))
   where
     -- all is read at once
     begun : Ran (fresh m) input [] → Ran (fresh m) [] input

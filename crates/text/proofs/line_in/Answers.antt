@@ -1,7 +1,7 @@
 -- `text::line_in` meets its contract. Closed by FeedLaws: the pairs of digits at the front are the line's own.
 use native.Mathlib.Omega.{arith}
 use borrow.Author.Rules.{rules}
-use Rattle.text.proofs.FeedLaws.{short, line_open, line-octets, line_refused}
+use Rattle.text.proofs.FeedLaws.{short, line_open, line_octets, line_refused}
 use Rattle.text.proofs.line_in.Goals as goal
 
 pub overflow_mul-n : goal.overflow_mul-n
@@ -23,7 +23,7 @@ overflow_mul-n-2 c = let h = short _ _ c.octets_in-n.result (search rules) c.oct
 pub returns-then-end-n : goal.returns-then-end-n
 returns-then-end-n c =
     let o = c.octets_in-n.ensures in
-    (line-octets c.args.s.now _ c.octets_in-n.result c.line_feed-end.result (search rules) o.0 c.line_feed-end.ensures (search rules) (search rules) (search rules), (o.1, search rules))
+    (line_octets c.args.s.now _ c.octets_in-n.result c.line_feed-end.result (search rules) o.0 c.line_feed-end.ensures (search rules) (search rules) (search rules), (o.1, search rules))
 
 pub returns : goal.returns
 returns c =

@@ -3,7 +3,7 @@ use Prim.Native.Nat.{◌*◌}
 use mathlib.Core.Path.{◌≡◌, sym, ◌∙◌}
 use native.Mathlib.Omega.{arith}
 use borrow.Author.Rules.{rules}
-use Rattle.text.proofs.LineLaws.{pairs_as, begun_start, begun-step, begun_stop, begun_end, leading_high, leading_low}
+use Rattle.text.proofs.LineLaws.{pairs_as, begun_start, begun_step, begun_stop, begun_end, leading_high, leading_low}
 use Rattle.text.proofs.octets_in.Goals as goal
 
 pub loop-i-init : goal.loop-i-init
@@ -42,7 +42,7 @@ pub loop-i-preserved : goal.loop-i-preserved
 loop-i-preserved c =
     let l = c.loop-i in
     let p = l.invariant.1 in
-    (search rules, p, begun-step l.invariant.2 _ _ (omega (arith, p.inside)) c.value_of-high.ensures c.value_of-low.ensures (search rules) (search rules))
+    (search rules, p, begun_step l.invariant.2 _ _ (omega (arith, p.inside)) c.value_of-high.ensures c.value_of-low.ensures (search rules) (search rules))
 
 pub returns : goal.returns
 returns c =

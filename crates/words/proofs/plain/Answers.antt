@@ -1,5 +1,5 @@
 -- `words::plain` meets its contract. Closed by LineLaws, one law for each way out.
-use Rattle.words.proofs.LineLaws.{takes_as, left-takes, plain_octets, plain_refused, plain_open}
+use Rattle.words.proofs.LineLaws.{takes_as, left_takes, plain_octets, plain_refused, plain_open}
 use Rattle.words.proofs.plain.Goals as goal
 
 pub returns-in-Octets : goal.returns-in-Octets
@@ -9,4 +9,4 @@ pub returns-in-Refused : goal.returns-in-Refused
 returns-in-Refused c = takes_as (plain_refused c.args.s c.args.input.now c.requires.0 c.requires.1.0 c.line_read-line.ensures _ c.in-Refused.is) c.no_digits.ensures
 
 pub returns-in-Open : goal.returns-in-Open
-returns-in-Open c = left-takes _ _ _ _ _ (plain_open c.args.s c.args.input.now c.requires.0 c.requires.1.0 c.line_read-line.ensures c.in-Open.is) c.not_ended.ensures
+returns-in-Open c = left_takes _ _ _ _ _ (plain_open c.args.s c.args.input.now c.requires.0 c.requires.1.0 c.line_read-line.ensures c.in-Open.is) c.not_ended.ensures

@@ -1,6 +1,6 @@
 -- `engine::lines::put_answers` meets its contract. Closed by laws of PenLaws and ReaderLaws.
 use mathlib.Core.List.{[], ◌∷◌, ◌++◌, map}
-use Rattle.said.proofs.PenLaws.{laid_none, laid_as, and_then, answers-more}
+use Rattle.said.proofs.PenLaws.{laid_none, laid_as, and_then, answers_more}
 use mathlib.Core.Path.{◌≡◌, refl, ap, ◌∙◌}
 use lib.ListN.{take}
 use Rattle.said.specs.Notes.{answer_line}
@@ -24,7 +24,7 @@ loop-i-preserved c =
       omega (arith, p.ensures.1, l.invariant.1, c.name-from.ensures.1),
       omega (arith, p.ensures.0.count, l.invariant.2),
       omega (arith, p.auto.out, l.invariant.3),
-      laid_as (ap (λ x. map (answer_line c.args.say c.name-from.result.now) (take l.i (unit_of c.args.u.now).waiting) ++ (answer_line c.args.say c.name-from.result.now x ∷ [])) c.id-id.ensures ∙ answers-more _ (unit_of c.args.u.now).waiting l.i (omega (arith, eight_wait c.args.u.now))) (and_then l.invariant.4 p.ensures.0),
+      laid_as (ap (λ x. map (answer_line c.args.say c.name-from.result.now) (take l.i (unit_of c.args.u.now).waiting) ++ (answer_line c.args.say c.name-from.result.now x ∷ [])) c.id-id.ensures ∙ answers_more _ (unit_of c.args.u.now).waiting l.i (omega (arith, eight_wait c.args.u.now))) (and_then l.invariant.4 p.ensures.0),
     )
 
 pub returns : goal.returns

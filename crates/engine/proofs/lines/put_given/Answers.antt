@@ -1,5 +1,5 @@
 -- `engine::lines::put_given` meets its contract. Closed by laws of PenLaws.
-use Rattle.said.proofs.PenLaws.{line-bare}
+use Rattle.said.proofs.PenLaws.{line_bare}
 use mathlib.Core.List.{◌∷◌}
 use Rattle.book.specs.Lines.{terms_octets}
 use borrow.Author.Rules.{rules}
@@ -7,4 +7,4 @@ use native.Mathlib.Omega.{arith}
 use Rattle.engine.proofs.lines.put_given.Goals as goal
 
 pub returns : goal.returns
-returns c = (line-bare (c.args.kind ∷ terms_octets c.args.t) c.args.frame.now c.args.end _ (search rules) (search rules) c.head_terms-next.ensures c.put_bare.ensures, omega (arith, c.head_terms-next.ensures.place))
+returns c = (line_bare (c.args.kind ∷ terms_octets c.args.t) c.args.frame.now c.args.end _ (search rules) (search rules) c.head_terms-next.ensures c.put_bare.ensures, omega (arith, c.head_terms-next.ensures.place))

@@ -1,5 +1,5 @@
 -- `engine::moves::remove` meets its contract. The invariant: what is left of closing up is the whole of it (MoveLaws, Closing).
-use Rattle.engine.proofs.MoveLaws.{closing_starts, closing_on, removed-by}
+use Rattle.engine.proofs.MoveLaws.{closing_starts, closing_on, removed_by}
 use Rattle.image.proofs.ReaderLaws.{eight_wait}
 use mathlib.Core.Path.{refl}
 use Rattle.image.specs.Image.{unit_of}
@@ -17,4 +17,4 @@ pub set_id-requires-2 : goal.set_id-requires-2
 set_id-requires-2 c = (search rules, omega (arith, c.requires.1.0, c.requires.1.1.0, c.count-last.ensures.0))
 
 pub returns : goal.returns
-returns c = removed-by _ (unit_of c.loop-i.u) _ _ c.loop-i.i _ c.loop-i.invariant.1 (search rules) (omega (arith, c.requires.1.1.0, c.requires.1.0, c.count-last.ensures.0)) (eight_wait c.loop-i.u) c.set_id-2.ensures c.count-last.ensures.0 refl c.set_count.ensures
+returns c = removed_by _ (unit_of c.loop-i.u) _ _ c.loop-i.i _ c.loop-i.invariant.1 (search rules) (omega (arith, c.requires.1.1.0, c.requires.1.0, c.count-last.ensures.0)) (eight_wait c.loop-i.u) c.set_id-2.ensures c.count-last.ensures.0 refl c.set_count.ensures

@@ -1,5 +1,5 @@
 -- `engine::requests::on_request` meets its contract. Closed by laws of RequestLaws and TurnLaws.
-use Rattle.turn_laws.proofs.RequestLaws.{ask_faulty, ask-extended, ask_other, ask_vetted, reads_zero, shot_multi, shot_single}
+use Rattle.turn_laws.proofs.RequestLaws.{ask_faulty, ask_extended, ask_other, ask_vetted, reads_zero, shot_multi, shot_single}
 use Rattle.engine.proofs.TurnLaws.{refused_in_place}
 use mathlib.Core.Path.{refl}
 use Rattle.image.specs.Image.{unit_of}
@@ -10,7 +10,7 @@ pub returns-in_default : goal.returns-in_default
 returns-in_default c = refused_in_place _ (ask_faulty (unit_of c.args.u.now) c.args.confirmed c.args.a c.args.frame.now c.read-reading.ensures c.in_default.is) refl
 
 pub returns-then-extensions-ne0 : goal.returns-then-extensions-ne0
-returns-then-extensions-ne0 c = refused_in_place _ (ask-extended (unit_of c.args.u.now) c.args.confirmed c.args.a c.args.frame.now c.read-reading.ensures c.in-Whole.is c.if-extensions-ne0.true) refl
+returns-then-extensions-ne0 c = refused_in_place _ (ask_extended (unit_of c.args.u.now) c.args.confirmed c.args.a c.args.frame.now c.read-reading.ensures c.in-Whole.is c.if-extensions-ne0.true) refl
 
 pub returns-then-c-bit_of : goal.returns-then-c-bit_of
 returns-then-c-bit_of c = refused_in_place _ (ask_other (unit_of c.args.u.now) c.args.confirmed c.args.a c.args.frame.now c.read-reading.ensures c.in-Whole.is c.if-extensions-ne0.false c.bit_of.ensures.0 c.if-c-bit_of.true) refl

@@ -1,6 +1,6 @@
 -- `unit::lines::put_answers` meets its contract. The invariant: the answers so far are laid, in their order, and the bounds hold.
 use mathlib.Core.Path.{◌≡◌, refl}
-use Rattle.said.proofs.PenLaws.{laid_none, laid_as, and_then, answers-more}
+use Rattle.said.proofs.PenLaws.{laid_none, laid_as, and_then, answers_more}
 use native.Mathlib.Omega.{arith}
 use borrow.Author.Rules.{rules}
 use Rattle.unit.proofs.lines.put_answers.Goals as goal
@@ -20,7 +20,7 @@ loop-i-preserved c =
       omega (arith, p.ensures.1, l.invariant.1),
       omega (arith, p.ensures.0.count, l.invariant.2),
       omega (arith, p.auto.out, l.invariant.3),
-      laid_as (answers-more _ a.ids l.i (omega arith)) (and_then l.invariant.4 p.ensures.0),
+      laid_as (answers_more _ a.ids l.i (omega arith)) (and_then l.invariant.4 p.ensures.0),
     )
 
 pub shape_of-out : goal.shape_of-out

@@ -1,5 +1,5 @@
 -- `words::parts::is_pair` meets its contract. Closed by PartLaws, one law for each way out.
-use Rattle.words.proofs.PartLaws.{pair_other, pair_low, pair-rest}
+use Rattle.words.proofs.PartLaws.{pair_other, pair_low, pair_rest}
 use borrow.Author.Rules.{rules}
 use Rattle.words.proofs.parts.is_pair.Goals as goal
 
@@ -10,4 +10,4 @@ pub returns-then-number-first : goal.returns-then-number-first
 returns-then-number-first c = pair_low c.args.s.now c.args.first c.args.last (search rules) c.octet_at-number.ensures (search rules)
 
 pub returns : goal.returns
-returns c = pair-rest c.args.s.now c.args.first c.args.last (search rules) c.octet_at-number.ensures (search rules)
+returns c = pair_rest c.args.s.now c.args.first c.args.last (search rules) c.octet_at-number.ensures (search rules)
