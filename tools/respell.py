@@ -17,7 +17,7 @@ KNOWN = set()
 QUOTED = {"multiShot", "userData", "messageType", "messageIdentifier", "messageReference"}
 WORD = r"[^\s(){}.;,@\"«»\[\]\\`]+"
 TOKEN = re.compile(r"\"(?:[^\"\\]|\\.)*\"|«[^»]*»|" + WORD)
-DECLARED = re.compile(r"^\s*(?:(?:unfoldable|abbrev|pub|\|)\s+)*((?:" + WORD + r")(?: " + WORD + r")*) : ", re.M)
+DECLARED = re.compile(r"^\s*(?:(?:unfoldable|abbrev|pub|\|)\s+)*((?:" + WORD + r")(?: " + WORD + r")*) :(?: |$)", re.M)
 LISTS = {"append", "drop", "take", "length", "set", "replicate", "map", "get_or", "sets", "list", "reverse"}
 
 

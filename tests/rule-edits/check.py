@@ -34,8 +34,9 @@ def fields(path):
 def refused(code, said):
     """Whether pair_laws was reached and a statement in it failed."""
     errors = re.findall(r"^\./proofs/\S*: error: (.*)", said, re.M)
-    hollow = [e for e in errors if "not in scope" in e or "has no `" in e]
-    return code == 1 and re.search("^crate pair_laws: ", said, re.M) is not None and bool(errors) and not hollow
+    hollow = [e for e in errors if "not in scope" in e or "has no `" in e or "has no field" in e]
+    reached = re.search("^crate pair_laws: ", said, re.M) is not None and "nothing was built" not in said
+    return code == 1 and reached and bool(errors) and not hollow
 
 
 def main():

@@ -58,21 +58,21 @@ unfolding on_dat Book.with_seen
 seen_given_acknowledged = refl
 
 -- refusal 3 before 4 and 5, 4 before 5; at eight an 02 is refused and an 01 still taken
-pub refused-in-order :
+pub refused_in_order :
     (on_request true others (good (msg (sheet 5)) 0) (assoc terms eight 0) ≡ refused 3)
     × (on_request true terms (good (msg (sheet 5)) 0) (assoc terms eight 0) ≡ refused 4)
     × (on_request true terms (good (msg (sheet 9)) 0) (assoc terms eight 0) ≡ refused 5)
     × (on_request false terms (good (msg (plain none none none body)) 0) (assoc terms eight 7)
     ≡ done (assoc terms eight 0) (send (dat (good (msg (plain none none none body)) 0)) ∷ []))
 unfolding on_request Book.on_vetted Book.vet Book.on_shot Book.body_of Book.on_multi Book.bar Book.bar_confirmed Book.same_terms Book.settled Book.full Book.ids_of
-refused-in-order = (refl, refl, refl, refl)
+refused_in_order = (refl, refl, refl, refl)
 
 -- RER 0 counts as low before terms are kept, sent or compared
-pub rer-settled :
+pub rer_settled :
     (on_request true unsettled (good (msg (sheet 5)) 0) idle ≡ done (multi terms (sheet 5) 0) (send (start terms none) ∷ []))
     × (on_request true unsettled (good (msg (sheet 5)) 0) (assoc terms [] 0) ≡ done (assoc terms (5 ∷ []) 0) (send (dat (good (msg (sheet 5)) 0)) ∷ []))
 unfolding on_request Book.on_vetted Book.vet Book.on_shot Book.body_of Book.on_multi Book.bar Book.bar_confirmed Book.same_terms Book.settled Book.full Book.ids_of
-rer-settled = (refl, refl)
+rer_settled = (refl, refl)
 
 -- a fall: 35, those who wait in sending order, 24
 pub falls_in_order : on_tick G1 true (ending terms (7 ∷ 9 ∷ []) 59)

@@ -93,7 +93,7 @@ called_back = (near, ask_02 0 (report 7)) ∷ (far, hears 0) ∷ (far, ask_02 0 
 
 pub record Examples : Type 0 where
   -- Each user has all that the other end handed over, each sheet was told successful, and the dialogue ended in order.
-  pub goes-both-ways :
+  pub goes_both_ways :
       look 1 (after (both_ways 0 0))
       ≡ shown
       (party idle (record { handed = sheet 7 ∷ remark ∷ []; given = sheet 9 ∷ []; okays = 7 ∷ []; fate = granted }) (7 ∷ []) (7 ∷ []))
@@ -103,13 +103,13 @@ pub record Examples : Type 0 where
   -- Extension fields in the frames change nothing of that.
   pub fields_change_nothing : look 1 (after (both_ways 2 3)) ≡ look 1 (after (both_ways 0 0))
   -- They travel: the far unit reads 2 of them in the report and says so by line 25, the near unit 3 in the confirmation.
-  pub fields-seen-far :
+  pub fields_seen_far :
       answer_to_next (swap (after ((near, ask_02 2 (report 7)) ∷ [])))
       ≡ done idle (seen 2 ∷ give terms (report 7) ∷ send (reply false (some (good (ack A9 7 (body false)) 0))) ∷ [])
-  pub fields-seen-near :
+  pub fields_seen_near :
       answer_to_next (after ((near, ask_02 2 (report 7)) ∷ (far, hears 3) ∷ []))
       ≡ done idle (seen 3 ∷ answer 7 success (ack A9 7 (body false)) ∷ [])
-  pub report-confirmed :
+  pub report_confirmed :
       look 1 (after ((near, ask_02 2 (report 7)) ∷ (far, hears 3) ∷ (near, hears 0) ∷ []))
       ≡ shown
       (party idle (record { handed = report 7 ∷ []; given = []; okays = 7 ∷ []; fate = turned }) (7 ∷ []) (7 ∷ []))
@@ -117,14 +117,14 @@ pub record Examples : Type 0 where
       [] []
   pub report_in_order : in_order turned going ≡ true
   -- After the provider's abort 16 is all that travels: the sheets are gone, and what the far end sent since was dropped.
-  pub abort-clears :
+  pub abort_clears :
       look 1 (after aborted)
       ≡ shown
       (party (assoc terms (7 ∷ []) 0) (record { handed = sheet 7 ∷ []; given = []; okays = []; fate = broken }) (7 ∷ []) [])
       (party (assoc terms (9 ∷ 10 ∷ []) 0) (record { handed = sheet 9 ∷ sheet 10 ∷ []; given = []; okays = []; fate = broken }) (9 ∷ 10 ∷ []) [])
       ((1, lost) ∷ []) ((1, lost) ∷ [])
   -- Both hear it, and answer all that waits; nothing was told successful.
-  pub abort-answers :
+  pub abort_answers :
       look 1 (after (aborted ++ ((near, hears 0) ∷ (far, hears 0) ∷ [])))
       ≡ shown
       (party idle (record { handed = sheet 7 ∷ []; given = []; okays = []; fate = broken }) (7 ∷ []) (7 ∷ []))
@@ -133,14 +133,14 @@ pub record Examples : Type 0 where
   pub abort_not_in_order : in_order broken broken ≡ false
   -- Both sent 33. The far end, in Ending, was given the sheet without acknowledging it; the near end's 33 came to it as 14 accepted. The far end's
   -- 33 is on the way.
-  pub doubled-half :
+  pub doubled_half :
       look 1 (after doubled)
       ≡ shown
       (party (ending terms (7 ∷ []) 0) (record { handed = sheet 7 ∷ []; given = []; okays = []; fate = asked }) (7 ∷ []) [])
       (party idle (record { handed = []; given = sheet 7 ∷ []; okays = []; fate = granted }) [] [])
       [] ((1, fin) ∷ [])
   -- It comes to the near end as 14 accepted too, and the dialogue ended in order. The sheet was given, and answered (uncertain).
-  pub doubled-whole :
+  pub doubled_whole :
       look 1 (after (doubled ++ ((near, hears 0) ∷ [])))
       ≡ shown
       (party idle (record { handed = sheet 7 ∷ []; given = []; okays = []; fate = granted }) (7 ∷ []) (7 ∷ []))
@@ -148,27 +148,27 @@ pub record Examples : Type 0 where
       [] []
   pub doubled_in_order : in_order granted granted ≡ true
   -- 35 took the first dialogue's lines out of both directions, and 15 comes before the second dialogue's 10; what the far end sent since was dropped.
-  pub timer-cuts :
+  pub timer_cuts :
       look 1 (after timed_out)
       ≡ shown
       (party (multi terms (sheet 8) 0) (record { handed = sheet 7 ∷ []; given = []; okays = []; fate = broken }) (7 ∷ 8 ∷ []) (7 ∷ []))
       (party (assoc terms (9 ∷ 10 ∷ []) 0) (record { handed = sheet 9 ∷ sheet 10 ∷ []; given = []; okays = []; fate = going }) (9 ∷ 10 ∷ []) [])
       ((1, cut 2) ∷ (2, start terms none) ∷ []) []
   -- The far end hears both, and is in the second dialogue.
-  pub timer-next :
+  pub timer_next :
       look 2 (after (timed_out ++ ((far, hears 0) ∷ (far, hears 0) ∷ (near, hears 0) ∷ (far, hears 0) ∷ [])))
       ≡ shown
       (party (assoc terms (8 ∷ []) 0) (record { handed = sheet 8 ∷ []; given = []; okays = []; fate = going }) (7 ∷ 8 ∷ []) (7 ∷ []))
       (party (assoc terms [] 0) (record { handed = []; given = sheet 8 ∷ []; okays = []; fate = going }) (9 ∷ 10 ∷ []) (9 ∷ 10 ∷ []))
       [] ((2, dat (good (ack A9 8 (body true)) 0)) ∷ [])
   -- The provider's abort takes the reply away and stands before the later dialogue's 30. The report was given, and its sender is never told so.
-  pub abort-before-later :
+  pub abort_before_later :
       look 1 (after called_back)
       ≡ shown
       (party (single terms (7 ∷ []) 0) (record { handed = report 7 ∷ []; given = []; okays = []; fate = broken }) (7 ∷ []) [])
       (party (multi terms (sheet 9) 0) (record { handed = []; given = report 7 ∷ []; okays = []; fate = going }) (9 ∷ []) [])
       [] ((1, lost) ∷ (2, start terms none) ∷ [])
-  pub later-taken :
+  pub later_taken :
       look 2 (after (called_back ++ ((near, hears 0) ∷ (near, hears 0) ∷ [])))
       ≡ shown
       (party (assoc terms [] 0) (record { handed = []; given = []; okays = []; fate = going }) (7 ∷ []) (7 ∷ []))
@@ -180,22 +180,22 @@ pub record Examples : Type 0 where
 pub examples : Examples
 unfolding in_order answer_to_next Model.blank Model.ask Model.grant Model.turn Model.log_fate Model.log_handed Model.log_read Model.log_given Model.log_okay Model.log_sent Model.log_out Model.log_all Model.log_heard Model.silent Model.answers swap Model.update Model.busy Model.inside Model.near_inside Model.far_inside Model.near_state Model.hang Model.with_fields Model.extended Model.post Model.purge Model.sever Model.carry Model.emit Model.act Model.act_there Model.fresh Model.is_start Model.start_comes Model.ask_with Model.asked_ids Model.ask_near Model.end_near Model.tick_near Model.on_line Model.as_heard Model.hear Model.join Model.hear_start Model.reach Model.deliver_near Model.warn Model.break_end Model.break_both Model.break_near Model.do_near Model.do_at run Model.new_end beginning Book.same_terms Book.settled Book.ids_of Book.waiting_of Book.full Book.without_in Book.without Book.body_of Book.ack_body ack Book.local Book.unsure Book.refuse_all Book.with_seen Book.fall Book.quiet_fall Book.vet Book.bar_confirmed Book.bar Book.on_single Book.on_multi Book.on_shot Book.on_vetted Book.on_request Book.on_end Book.late Book.on_tick Book.greet Book.first_contact Book.on_start Book.result_of Book.single_result Book.answered_by Book.begun Book.on_reply Book.noted Book.left_waiting Book.on_dat Book.on_fin Book.on_fin_ok Book.on_abort
 examples = record {
-  goes-both-ways = refl;
+  goes_both_ways = refl;
   ends_in_order = refl;
   fields_change_nothing = refl;
-  fields-seen-far = refl;
-  fields-seen-near = refl;
-  report-confirmed = refl;
+  fields_seen_far = refl;
+  fields_seen_near = refl;
+  report_confirmed = refl;
   report_in_order = refl;
-  abort-clears = refl;
-  abort-answers = refl;
+  abort_clears = refl;
+  abort_answers = refl;
   abort_not_in_order = refl;
-  doubled-half = refl;
-  doubled-whole = refl;
+  doubled_half = refl;
+  doubled_whole = refl;
   doubled_in_order = refl;
-  timer-cuts = refl;
-  timer-next = refl;
-  abort-before-later = refl;
-  later-taken = refl;
+  timer_cuts = refl;
+  timer_next = refl;
+  abort_before_later = refl;
+  later_taken = refl;
   no_crossing = refl;
 }
