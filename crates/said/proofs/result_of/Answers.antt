@@ -1,4 +1,4 @@
--- `said::result_of` meets its contract. Closed by `search needs`.
+-- `said::result_of` meets its contract. Closed by the test that was taken.
 use borrow.Author.Tests.{eq-eqb, ne_eqb}
 use Rattle.said.proofs.result_of.Goals as goal
 

@@ -1,4 +1,4 @@
--- `engine::data::on_message` meets its contract. Closed by `search rules`.
+-- `engine::data::on_message` meets its contract. Closed by what is required, handed on, and the two tests.
 use native.Mathlib.Omega.{arith}
 use Rattle.engine.proofs.data.on_message.Goals as goal
 

@@ -1,4 +1,4 @@
--- `state::sound::kept_part` meets its contract. Closed by `search rules` and the length of a prefix.
+-- `state::sound::kept_part` meets its contract. Closed by the length of a prefix.
 use mathlib.Core.Path.{sym}
 use lib.Seq.{length-take-le}
 use native.Mathlib.Omega.{arith}

@@ -1,4 +1,4 @@
--- `unit::moves::enter` meets its contract. Closed by `search needs`.
+-- `unit::moves::enter` meets its contract. Closed by computation, with the definition open.
 use mathlib.Core.Path.{refl}
 use Rattle.turn_laws.specs.Moves.{entered}
 use Rattle.unit.proofs.moves.enter.Goals as goal

@@ -1,4 +1,4 @@
--- `unit::moves::keep` meets its contract. Closed by `search rules`.
+-- `unit::moves::keep` meets its contract. Closed by what the callee ensures.
 use Rattle.turn_laws.specs.Moves.{keeping}
 use Rattle.unit.proofs.moves.keep.Goals as goal
 

@@ -1,4 +1,4 @@
--- `unit::moves::remove` meets its contract. Closed by `search rules`.
+-- `unit::moves::remove` meets its contract. Closed by what the callee ensures.
 use Rattle.turn_laws.specs.Moves.{waiting_with}
 use Rattle.unit.proofs.moves.remove.Goals as goal
 

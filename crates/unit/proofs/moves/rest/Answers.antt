@@ -1,4 +1,4 @@
--- `unit::moves::rest` meets its contract. Closed by `search rules`.
+-- `unit::moves::rest` meets its contract. Closed by the test of the state.
 use borrow.Author.Tests.{eq-eqb, ne_eqb}
 use Rattle.turn_laws.specs.Moves.{rested, advanced}
 use Rattle.unit.proofs.moves.rest.Goals as goal

@@ -10,7 +10,7 @@ pub returns-in_default : goal.returns-in_default
 returns-in_default c = refuses (ask_4 c.requires.0 c.requires.1.1.0 c.args.a c.requires.1.0 c.requires.1.1.1.1.0 c.requires.1.1.1.0 c.two_octets.result c.two_octets.ensures c.needed_value-id.ensures c.find-found.ensures c.in_default.is) c.refuse.ensures
 
 pub returns-then-u-ge8 : goal.returns-then-u-ge8
-returns-then-u-ge8 c = refuses (ask_5 c.requires.0 c.requires.1.1.0 c.args.a c.requires.1.0 c.requires.1.1.1.1.0 c.requires.1.1.1.0 c.two_octets.result c.two_octets.ensures c.needed_value-id.ensures c.find-found.ensures c.in-Nowhere.is c.if-u-ge8.true) c.refuse-then-u-ge8.ensures
+returns-then-u-ge8 c = refuses (ask_5 c.requires.0 c.requires.1.1.0 c.args.a c.requires.1.0 c.requires.1.1.1.1.0 c.requires.1.1.1.0 c.two_octets.result c.two_octets.ensures c.needed_value-id.ensures c.find-found.ensures c.in-Nowhere.is (omega (arith, c.if-u-ge8.true))) c.refuse-then-u-ge8.ensures
 
 pub append-x-requires : goal.append-x-requires
 unfolding advanced
