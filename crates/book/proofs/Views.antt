@@ -1,10 +1,10 @@
 -- Messages and the rule book's frames are the same thing, said twice: each way gives back what went in. Closed by cases on the confirmation.
+use Rattle.std.specs.Prelude.{None, Option, Some}
 use Prim.Native.Nat.{ℕ, zero, suc, ◌≤◌, ◌<◌}
 use native.Mathlib.Omega.{arith}
 use mathlib.Core.Path.{◌≡◌, refl, ap, sym, ◌∙◌}
 use mathlib.Core.Bool.{Bool, true, false}
 use mathlib.Core.List.{List}
-use mathlib.Core.Option.{Option, none, some}
 use lib.ListN.{length}
 use Rattle.frame.specs.declared.Header.{Header}
 use Rattle.frame.specs.declared.Fault.{Fault}
@@ -44,17 +44,17 @@ message_at_lem : (c : ℕ) (b : Bool) (t : Option ℕ) (i r : Option ℕ) (q u :
     ≡ record { multi_shot = b; confirmation = c; message_type = t; message_identifier = i; message_reference = r; sender = q; user_data = u }
 unfolding frame_message msg_message lacks
 message_at_lem zero b t i r q u h l = refl
-message_at_lem (suc zero) b t (some i) r q u h l = refl
-message_at_lem (suc zero) b t none r q u h l = no_way l
-message_at_lem (suc (suc zero)) b t i (some r) (some q) u h l = refl
-message_at_lem (suc (suc zero)) b t i (some r) none u h l = no_way l
-message_at_lem (suc (suc zero)) b t i none q u h l = no_way l
-message_at_lem (suc (suc (suc zero))) b t i (some r) (some q) u h l = refl
-message_at_lem (suc (suc (suc zero))) b t i (some r) none u h l = no_way l
-message_at_lem (suc (suc (suc zero))) b t i none q u h l = no_way l
-message_at_lem (suc (suc (suc (suc zero)))) b t i (some r) (some q) u h l = refl
-message_at_lem (suc (suc (suc (suc zero)))) b t i (some r) none u h l = no_way l
-message_at_lem (suc (suc (suc (suc zero)))) b t i none q u h l = no_way l
+message_at_lem (suc zero) b t (Some i) r q u h l = refl
+message_at_lem (suc zero) b t None r q u h l = no_way l
+message_at_lem (suc (suc zero)) b t i (Some r) (Some q) u h l = refl
+message_at_lem (suc (suc zero)) b t i (Some r) None u h l = no_way l
+message_at_lem (suc (suc zero)) b t i None q u h l = no_way l
+message_at_lem (suc (suc (suc zero))) b t i (Some r) (Some q) u h l = refl
+message_at_lem (suc (suc (suc zero))) b t i (Some r) None u h l = no_way l
+message_at_lem (suc (suc (suc zero))) b t i None q u h l = no_way l
+message_at_lem (suc (suc (suc (suc zero)))) b t i (Some r) (Some q) u h l = refl
+message_at_lem (suc (suc (suc (suc zero)))) b t i (Some r) None u h l = no_way l
+message_at_lem (suc (suc (suc (suc zero)))) b t i None q u h l = no_way l
 message_at_lem (suc (suc (suc (suc (suc c))))) b t i r q u h l = absurd (omega arith)
 
 pub message_back : (m : Message) → Sound m → frame_message (viewed m) ≡ m

@@ -1,7 +1,6 @@
 -- THE RULE BOOK: messages, lines, states, and what each event does in each state (01, "The five states"), at the level of messages.
 -- The code is proved to do this (crate unit), and demand 3 stands on it (crate link).
-use Rattle.std.specs.Prelude.{Bool, true, false, List, [], ◌∷◌, ◌++◌, ℕ, zero, suc, eqb, leb, length}
-use Rattle.std.proofs.Math.Option.{Option, none, some}
+use Rattle.std.specs.Prelude.{Bool, true, false, List, [], ◌∷◌, ◌++◌, ℕ, zero, suc, eqb, leb, length, None, Option, Some}
 use Rattle.octets.specs.Choice.{pick, both, either}
 use Rattle.book.specs.declared.Terms.{Terms}
 
@@ -113,12 +112,12 @@ full w = leb 8 (length w)
 
 -- The waiting list without the first `r`, if `r` waits: "one place removed and the rest closed up".
 unfoldable pub without_in : Bool → ℕ → List ℕ → Option (List ℕ) → Option (List ℕ)
-without_in true j w o = some w
-without_in false j w none = none
-without_in false j w (some v) = some (j ∷ v)
+without_in true j w o = Some w
+without_in false j w None = None
+without_in false j w (Some v) = Some (j ∷ v)
 
 unfoldable pub without : ℕ → List ℕ → Option (List ℕ)
-without r [] = none
+without r [] = None
 without r (j ∷ w) = without_in (eqb r j) j w (without r w)
 
 -- ---------------------------------------------------------------- answers made here
@@ -130,16 +129,16 @@ body_of (sure i r q b) = b
 -- "An acknowledgement frame has the received type if present and multiShot bit, the received identifier as reference, confirmedOk, the unit's
 -- name as sender."
 unfoldable pub ack_body : Body → Body
-ack_body b = record { maintained = b.maintained; type = b.type; user_data = none }
+ack_body b = record { maintained = b.maintained; type = b.type; user_data = None }
 
 unfoldable pub ack : Setup → (id : ℕ) → Body → Frame
 unfolding ack_body
-ack s i b = note ok i none s.name (ack_body b)
+ack s i b = note ok i None s.name (ack_body b)
 
 -- "An answer made locally has the name, the waiting identifier as reference, multiShot single in state 1 and else maintained, and confirmedNotOk
 -- (failed) or confirmedUnknown (uncertain)."
 unfoldable pub local : Setup → (maintained : Bool) → Kind → ℕ → Frame
-local s m k i = note k i none s.name (record { maintained = m; type = none; user_data = none })
+local s m k i = note k i None s.name (record { maintained = m; type = None; user_data = None })
 
 -- every identifier of `w` answered uncertain, in sending order, then `rest`
 unfoldable pub unsure : Setup → (maintained : Bool) → List ℕ → List Out → List Out
@@ -168,31 +167,31 @@ quiet_fall s m w r = done idle (unsure s m w (gone r ∷ []))
 -- The message of a request, 01 or (true) 02. None is refusal 2: "the frame of 01 or 02 has a fault or extensions, or its confirmation isn't 0 for
 -- 01, 1 for 02".
 unfoldable pub vet : (confirmed : Bool) → Reading → Option Msg
-vet c (bad n) = none
-vet c (good f (suc n)) = none
-vet c (good (note k r i q b) zero) = none
-vet true (good (msg (plain i r q b)) zero) = none
-vet false (good (msg (plain i r q b)) zero) = some (plain i r q b)
-vet true (good (msg (sure i r q b)) zero) = some (sure i r q b)
-vet false (good (msg (sure i r q b)) zero) = none
+vet c (bad n) = None
+vet c (good f (suc n)) = None
+vet c (good (note k r i q b) zero) = None
+vet true (good (msg (plain i r q b)) zero) = None
+vet false (good (msg (plain i r q b)) zero) = Some (plain i r q b)
+vet true (good (msg (sure i r q b)) zero) = Some (sure i r q b)
+vet false (good (msg (sure i r q b)) zero) = None
 
 -- 4: "the identifier of an 02 is already waiting"; 5: "an 02 comes while eight identifiers are waiting (01 is still taken)"
 unfoldable pub bar_confirmed : Msg → List ℕ → Option ℕ
-bar_confirmed (plain i r q b) w = none
-bar_confirmed (sure i r q b) w = pick (waits i w) (some 4) (pick (full w) (some 5) none)
+bar_confirmed (plain i r q b) w = None
+bar_confirmed (sure i r q b) w = pick (waits i w) (Some 4) (pick (full w) (Some 5) None)
 
 -- The refusal 3, 4 or 5 that a multi-shot request meets in Associated, if any. 3: "a multi-shot request in Associated has terms other than the
 -- dialogue's".
 unfoldable pub bar : Terms → Msg → State → Option ℕ
-bar a m idle = none
-bar a m (single T w t) = none
-bar a m (multi T k t) = none
-bar a m (ending T w t) = none
-bar a m (assoc T w t) = pick (same_terms (settled a) T) (bar_confirmed m w) (some 3)
+bar a m idle = None
+bar a m (single T w t) = None
+bar a m (multi T k t) = None
+bar a m (ending T w t) = None
+bar a m (assoc T w t) = pick (same_terms (settled a) T) (bar_confirmed m w) (Some 3)
 
 -- "Single request in 0: line 30 with the frame, to 1."
 unfoldable pub on_single : Terms → Msg → State → Outcome
-on_single a m idle = done (single (settled a) (ids_of m) 0) (send (start (settled a) (some (good (msg m) 0))) ∷ [])
+on_single a m idle = done (single (settled a) (ids_of m) 0) (send (start (settled a) (Some (good (msg m) 0))) ∷ [])
 on_single a m (single T w t) = refused 1
 on_single a m (multi T k t) = refused 1
 on_single a m (ending T w t) = refused 1
@@ -200,20 +199,20 @@ on_single a m (assoc T w t) = refused 1
 
 -- "Multi in 0: keep the frame, line 30 without one, to 2. Multi in 4: line 32, elapsed 0. A confirmed identifier joins the waiting list".
 unfoldable pub on_multi : (bar : Option ℕ) → Terms → Msg → State → Outcome
-on_multi b a m idle = done (multi (settled a) m 0) (send (start (settled a) none) ∷ [])
+on_multi b a m idle = done (multi (settled a) m 0) (send (start (settled a) None) ∷ [])
 on_multi b a m (single T w t) = refused 1
 on_multi b a m (multi T k t) = refused 1
 on_multi b a m (ending T w t) = refused 1
-on_multi (some n) a m (assoc T w t) = refused n
-on_multi none a m (assoc T w t) = done (assoc T (w ++ ids_of m) 0) (send (dat (good (msg m) 0)) ∷ [])
+on_multi (Some n) a m (assoc T w t) = refused n
+on_multi None a m (assoc T w t) = done (assoc T (w ++ ids_of m) 0) (send (dat (good (msg m) 0)) ∷ [])
 
 unfoldable pub on_shot : (maintained : Bool) → Terms → Msg → State → Outcome
 on_shot false a m st = on_single a m st
 on_shot true a m st = on_multi (bar a m st) a m st
 
 unfoldable pub on_vetted : Terms → Option Msg → State → Outcome
-on_vetted a none st = refused 2
-on_vetted a (some m) st = on_shot (body_of m).maintained a m st
+on_vetted a None st = refused 2
+on_vetted a (Some m) st = on_shot (body_of m).maintained a m st
 
 unfoldable pub on_request : (confirmed : Bool) → Terms → Reading → State → Outcome
 on_request c a r st = on_vetted a (vet c r) st
@@ -254,16 +253,16 @@ on_tick s false (assoc T w t) = done (assoc T w (suc t)) []
 -- other valid frame: 35 reason 10."
 unfoldable pub greet : Setup → (maintained : Bool) → Terms → (extensions : ℕ) → Msg → Outcome
 greet s true a e m = done idle (with_seen e (send (cut 10) ∷ []))
-greet s false a e (plain i r q b) = done idle (with_seen e (give a (plain i r q b) ∷ send (reply false none) ∷ []))
+greet s false a e (plain i r q b) = done idle (with_seen e (give a (plain i r q b) ∷ send (reply false None) ∷ []))
 greet s false a e (sure i r q b) =
-    done idle (with_seen e (give a (sure i r q b) ∷ send (reply false (some (good (ack s i b) 0))) ∷ []))
+    done idle (with_seen e (give a (sure i r q b) ∷ send (reply false (Some (good (ack s i b) 0))) ∷ []))
 
 -- "10 without a frame: 31 accepted, to 4 with those terms. … Faulty: 35 with the fault. Both stay in 0 with no line 24."
 unfoldable pub first_contact : Setup → Terms → Option Reading → Outcome
-first_contact s a none = done (assoc a [] 0) (send (reply true none) ∷ [])
-first_contact s a (some (bad n)) = done idle (send (cut n) ∷ [])
-first_contact s a (some (good (msg m) e)) = greet s (body_of m).maintained a e m
-first_contact s a (some (good (note k r i q b) e)) = done idle (with_seen e (send (cut 10) ∷ []))
+first_contact s a None = done (assoc a [] 0) (send (reply true None) ∷ [])
+first_contact s a (Some (bad n)) = done idle (send (cut n) ∷ [])
+first_contact s a (Some (good (msg m) e)) = greet s (body_of m).maintained a e m
+first_contact s a (Some (good (note k r i q b) e)) = done idle (with_seen e (send (cut 10) ∷ []))
 
 unfoldable pub on_start : Setup → Terms → Option Reading → State → Outcome
 on_start s a f idle = first_contact s a f
@@ -288,14 +287,14 @@ single_result (note k r i q b) = result_of k
 -- "if waiting, a valid frame gives 22 …; an absent or faulty frame gives 22 uncertain (Table 1.3-28). If nobody waits the frame isn't read."
 unfoldable pub answered_by : Setup → List ℕ → Option Reading → List Out
 answered_by s [] f = []
-answered_by s (i ∷ w) none = answer i uncertain (local s false unknown i) ∷ []
-answered_by s (i ∷ w) (some (bad n)) = answer i uncertain (local s false unknown i) ∷ []
-answered_by s (i ∷ w) (some (good f e)) = with_seen e (answer i (single_result f) f ∷ [])
+answered_by s (i ∷ w) None = answer i uncertain (local s false unknown i) ∷ []
+answered_by s (i ∷ w) (Some (bad n)) = answer i uncertain (local s false unknown i) ∷ []
+answered_by s (i ∷ w) (Some (good f e)) = with_seen e (answer i (single_result f) f ∷ [])
 
 -- "accepted without a frame sends the kept frame by 32, to 4; with octets present, unread, fall with 35 reason 10"
 unfoldable pub begun : Setup → Terms → Msg → Option Reading → Outcome
-begun s a k none = done (assoc a (ids_of k) 0) (send (dat (good (msg k) 0)) ∷ [])
-begun s a k (some f) = fall s true (ids_of k) 10
+begun s a k None = done (assoc a (ids_of k) 0) (send (dat (good (msg k) 0)) ∷ [])
+begun s a k (Some f) = fall s true (ids_of k) 10
 
 -- "11 in 1: rejected, to 0 … Accepted: fall with 35 reason 10, the frame unread." "11 in 2: … Rejected: any waiting identifier answered failed,
 -- line 24 reason 3, to 0; the frame isn't read."
@@ -312,12 +311,12 @@ on_reply s a f (assoc T w t) = refused 1
 
 -- "2 to 4 give 22 if the reference is waiting (0 for confirmedOk, else 1, Table 1.3-29), else nothing"; the option is the list without it
 unfoldable pub noted : (extensions : ℕ) → Kind → (ref : ℕ) → Frame → Option (List ℕ) → List Out
-noted e k r f none = with_seen e []
-noted e k r f (some v) = with_seen e (answer r (result_of k) f ∷ [])
+noted e k r f None = with_seen e []
+noted e k r f (Some v) = with_seen e (answer r (result_of k) f ∷ [])
 
 unfoldable pub left_waiting : List ℕ → Option (List ℕ) → List ℕ
-left_waiting w none = w
-left_waiting w (some v) = v
+left_waiting w None = w
+left_waiting w (Some v) = v
 
 -- "12 in 3 or 4: a faulty frame makes a fall with 35. Otherwise elapsed 0 in state 4, unchanged in 3 (ours). Confirmation 0 gives 20; 1 gives 21,
 -- then in state 4 only an acknowledgement by 32; 2 to 4 give 22 … Ending takes confirmations too (ours)."

@@ -1,6 +1,5 @@
 -- A TURN AT THE LEVEL OF OCTETS: read the event, apply the rule book, write the lines.
-use Rattle.std.specs.Prelude.{ℕ, ◌≡◌, List, [], ◌∷◌, length, drop, replicate, ltb}
-use Rattle.std.proofs.Math.Option.{Option, none, some}
+use Rattle.std.specs.Prelude.{ℕ, ◌≡◌, List, [], ◌∷◌, length, drop, replicate, ltb, None, Option, Some}
 use Rattle.std.proofs.lemmas.List.Edits.{sets}
 use Rattle.octets.specs.Choice.{pick}
 use Rattle.book.specs.Book.{Reading, State, idle, Setup, Outcome, refused, done, on_request, on_end, on_tick, late, on_start, on_reply, on_dat, on_fin, on_fin_ok, on_abort}
@@ -17,8 +16,8 @@ use Rattle.book.specs.declared.Turn.{Turn}
 
 -- "frame or nothing": an empty frame in 10 and 11 is nothing
 abbrev pub or_nothing : List ℕ → Option Reading
-or_nothing [] = none
-or_nothing (x ∷ s) = some (reading_in (x ∷ s))
+or_nothing [] = None
+or_nothing (x ∷ s) = Some (reading_in (x ∷ s))
 
 -- the rule book's answer to an event whose frame has the octets f
 unfoldable pub does : Setup → Event → (f : List ℕ) → State → Outcome

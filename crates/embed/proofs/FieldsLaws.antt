@@ -1,9 +1,9 @@
 -- Laws of the frame's calls: the block that is written, the writer's parts, and each way out of the two calls.
+use Rattle.std.specs.Prelude.{None, Option, Some}
 use Prim.Native.Nat.{ℕ, ◌+◌, ◌/◌, ◌%◌, ◌<◌, ◌≤◌}
 use mathlib.Core.Path.{◌≡◌, refl, ap, sym, ◌∙◌}
 use mathlib.Core.Bool.{Bool, true, false}
 use mathlib.Core.List.{List, [], ◌∷◌, ◌++◌}
-use mathlib.Core.Option.{Option, none, some}
 use native.Mathlib.Omega.{arith}
 use borrow.Author.Tests.{lt-ltb, le-ltb, ne_eqb}
 use lib.Dec.{ltb}
@@ -165,11 +165,11 @@ write_answers flags p q sender user before h b t s {w} {after} d e f =
     record { number = f ∙ ap number_of (e ∙ ap write_verdict g.answers); buffer = g.leaves }
 
 -- an edition 1 frame's length has room in a number
-allowed : (room : ℕ) (m : Message) → refusal_of room m ≡ none → Allowed m
+allowed : (room : ℕ) (m : Message) → refusal_of room m ≡ None → Allowed m
 unfolding refusal_of
 allowed room m e = go (ltb room 1024) e
   where
-    go : (b : Bool) → pick b (some NoRoom) (fault_in m) ≡ none → Allowed m
+    go : (b : Bool) → pick b (Some NoRoom) (fault_in m) ≡ None → Allowed m
     go true q = let z : ◌≡◌ {A = ℕ} 0 1 = cc in absurd (omega arith)
     go false q = q
 
@@ -179,5 +179,5 @@ unfolding write_verdict counted
 write_counts room m before after w p e = rw (e, p.answers) (go (refusal_of room m) refl)
   where
     go : (o : Option Refusal) → refusal_of room m ≡ o → counted (write_verdict (answered o (encode m))) < 4294967040
-    go none q = let s = short m (allowed room m q) in omega arith
-    go (some r) q = omega arith
+    go None q = let s = short m (allowed room m q) in omega arith
+    go (Some r) q = omega arith

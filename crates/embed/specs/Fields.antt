@@ -1,8 +1,7 @@
 -- A FRAME FOR PROGRAMS IN C OR RUST: what the reader answers as a block of 26 octets, and what the writer is given as numbers.
 -- The block: multiShot 0, confirmation 1; type 2, identifier 6, reference 10, sender 14, user data 18, of each the place in the frame and the length
 -- (2 octets each); the place after the fields 22, how many extension fields follow 24 (2 each). Numbers are big-endian.
-use Rattle.std.specs.Prelude.{ℕ, ◌+◌, ◌/◌, ◌%◌, ◌≡◌, List, [], ◌∷◌, ◌++◌, length, ltb, eqb}
-use Rattle.std.proofs.Math.Option.{Option, some}
+use Rattle.std.specs.Prelude.{ℕ, ◌+◌, ◌/◌, ◌%◌, ◌≡◌, List, [], ◌∷◌, ◌++◌, length, ltb, eqb, Option, Some}
 use Rattle.std.proofs.lemmas.List.Edits.{sets}
 use Rattle.octets.specs.Choice.{pick, either}
 use Rattle.frame.specs.Message.{Message}
@@ -84,7 +83,7 @@ parts_in flags confirmation type identifier reference = record {
 -- "6, then 13 (confirmation above 4), 15, 14"; bits 7 and 1, which edition 1 sets in no frame, are 13 too
 unfoldable pub write_refusal : (room flags : ℕ) → Message → Option Refusal
 write_refusal room flags m =
-    pick (ltb room 1024) (some NoRoom) (pick (either (bit flags 128) (bit flags 2)) (some (Wrong BadOctet)) (fault_in m))
+    pick (ltb room 1024) (Some NoRoom) (pick (either (bit flags 128) (bit flags 2)) (Some (Wrong BadOctet)) (fault_in m))
 
 -- how many octets were written, or the refusal's number
 unfoldable pub write_verdict : Written → Verdict

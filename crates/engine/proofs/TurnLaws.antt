@@ -1,9 +1,9 @@
 -- A turn in place from a turn by value, and the states that an event is refused in.
+use Rattle.std.specs.Prelude.{Option}
 use Prim.Native.Nat.{ℕ, zero, suc, ◌+◌, ◌-◌, ◌<◌, ◌≤◌}
 use mathlib.Core.Path.{◌≡◌, refl, ap, sym, ◌∙◌}
 use mathlib.Core.Bool.{Bool, true, not}
 use mathlib.Core.List.{List, [], ◌∷◌, ◌++◌, map}
-use mathlib.Core.Option.{Option}
 use native.Mathlib.Omega.{arith}
 use borrow.Author.Tests.{lt-ltb, ne_eqb}
 use Rattle.book.specs.declared.Unit.{Unit as Value}

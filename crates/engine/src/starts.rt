@@ -1,6 +1,5 @@
 // The events that begin a dialogue: 10, and 11 in the two start states.
-ghost use Rattle.std.specs.Prelude.{◌≡◌, true, false, [], ◌∷◌, ◌≤◌, ◌<◌, length};
-ghost use Rattle.std.proofs.Math.Option.{none, some};
+ghost use Rattle.std.specs.Prelude.{◌≡◌, true, false, [], ◌∷◌, ◌≤◌, ◌<◌, length, None, Some};
 ghost use Rattle.book.specs.Book.{on_start, on_reply, first_contact, good, done, idle, with_seen, send, cut};
 ghost use Rattle.book.specs.Picture.{setup_of, state_of};
 ghost use Rattle.book.specs.Step.{or_nothing};
@@ -60,7 +59,7 @@ fn on_greeted(u: &[u8], a: Terms, frame: &[u8], h: Header, n: usize, out: &mut [
 // 10 without a frame.
 fn on_opened(u: &mut [u8], a: Terms, out: &mut [u8]) -> Verdict
     requires { (length u.old ≡ 618) × ((Ready (unit_of u.old)) × (((unit_of u.old).state ≡ 0) × (1024 ≤ length out.old))) }
-    ensures { Acted u.old (first_contact (setup_of (unit_of u.old)) a none) out.old result u.new out.new }
+    ensures { Acted u.old (first_contact (setup_of (unit_of u.old)) a None) out.old result u.new out.new }
 {
     let done = lines::put_two(out, Pen { at: 0, lines: 0 }, 0x31, 0);
     moves::enter(u, 4, a);
@@ -102,7 +101,7 @@ pub(crate) fn on_start(u: &mut [u8], a: Terms, frame: &[u8], out: &mut [u8]) -> 
 // The one that waits in Start-single answered uncertain.
 fn on_unanswered(u: &mut [u8], out: &mut [u8]) -> Verdict
     requires { (length u.old ≡ 618) × ((Ready (unit_of u.old)) × (((unit_of u.old).state ≡ 1) × ((1 ≤ (unit_of u.old).count) × (1024 ≤ length out.old)))) }
-    ensures { Acted u.old (on_reply (setup_of (unit_of u.old)) false none (state_of (unit_of u.old))) out.old result u.new out.new }
+    ensures { Acted u.old (on_reply (setup_of (unit_of u.old)) false None (state_of (unit_of u.old))) out.old result u.new out.new }
 {
     let say = Say {
         result: 2,
@@ -117,7 +116,7 @@ fn on_unanswered(u: &mut [u8], out: &mut [u8]) -> Verdict
 // The one that waits in Start-single answered by a valid frame.
 fn on_answered(u: &mut [u8], frame: &[u8], h: Header, n: usize, out: &mut [u8]) -> Verdict
     requires { (length u.old ≡ 618) × ((Ready (unit_of u.old)) × (((unit_of u.old).state ≡ 1) × ((1 ≤ (unit_of u.old).count) × ((Reads frame.now h n) × (1024 ≤ length out.old))))) }
-    ensures { Acted u.old (on_reply (setup_of (unit_of u.old)) false (some (good (frame_at frame.now h) n)) (state_of (unit_of u.old))) out.old result u.new out.new }
+    ensures { Acted u.old (on_reply (setup_of (unit_of u.old)) false (Some (good (frame_at frame.now h) n)) (state_of (unit_of u.old))) out.old result u.new out.new }
 {
     let pen = lines::put_seen(out, n);
     let done = lines::put_confirmed(out, pen, h, frame);
@@ -147,7 +146,7 @@ fn on_single_answer(u: &mut [u8], frame: &[u8], out: &mut [u8]) -> Verdict
 // 11 accepted in Start-multi, without a frame: the kept frame goes out.
 fn on_begun(u: &mut [u8], out: &mut [u8]) -> Verdict
     requires { (length u.old ≡ 618) × ((Ready (unit_of u.old)) × (((unit_of u.old).state ≡ 2) × (1024 ≤ length out.old))) }
-    ensures { Acted u.old (on_reply (setup_of (unit_of u.old)) true none (state_of (unit_of u.old))) out.old result u.new out.new }
+    ensures { Acted u.old (on_reply (setup_of (unit_of u.old)) true None (state_of (unit_of u.old))) out.old result u.new out.new }
 {
     let done = lines::put_kept(out, Pen { at: 0, lines: 0 }, u);
     let t = image::terms(u);
@@ -158,7 +157,7 @@ fn on_begun(u: &mut [u8], out: &mut [u8]) -> Verdict
 // 11 rejected in Start-multi.
 fn on_turned_down(u: &mut [u8], out: &mut [u8]) -> Verdict
     requires { (length u.old ≡ 618) × ((Ready (unit_of u.old)) × (((unit_of u.old).state ≡ 2) × (1024 ≤ length out.old))) }
-    ensures { Acted u.old (on_reply (setup_of (unit_of u.old)) false none (state_of (unit_of u.old))) out.old result u.new out.new }
+    ensures { Acted u.old (on_reply (setup_of (unit_of u.old)) false None (state_of (unit_of u.old))) out.old result u.new out.new }
 {
     let say = Say {
         result: 1,

@@ -1,12 +1,12 @@
 -- What is known of a frame that was read: writing its message gives the frame without its extension fields. Closed by taking the reader's
 -- answer apart, field by field.
+use Rattle.std.specs.Prelude.{None, Some}
 use Prim.Native.Nat.{ℕ, zero, suc, ◌+◌, ◌-◌, ◌*◌, ◌/◌, ◌%◌, ◌≤◌, ◌<◌}
 use native.Mathlib.Omega.{arith}
 use native.Mathlib.Numerals.{add-one}
 use native.Mathlib.Nat.{mul-one, mul-zero, zero-add}
 use mathlib.Core.List.{List, [], ◌∷◌, ◌++◌, append_assoc, append-nil}
 use mathlib.Core.Bool.{Bool, true, false, not}
-use mathlib.Core.Option.{none, some}
 use mathlib.Core.Path.{◌≡◌, refl, sym, ap, ◌∙◌, subst}
 use lib.ListN.{length, take, drop, length-append, length-drop}
 use lib.Seq.{take-suc, take-add, drop-cons, length-take-le}
@@ -68,20 +68,20 @@ take-two s at h =
     simp q (take_one s (at + 1) (omega arith) ∙ simp (take_one s at (omega arith), append_assoc))
 
 -- the octets of a field that is there
-held_at_lem : (s : List ℕ) (at n : ℕ) → at + n ≤ length s → held_at s (At at n) ≡ some (take n (drop at s))
+held_at_lem : (s : List ℕ) (at n : ℕ) → at + n ≤ length s → held_at s (At at n) ≡ Some (take n (drop at s))
 unfolding held_at
 held_at_lem s at n h = simp (le-leb (at + n) (length s) h)
 
 part_length : (s : List ℕ) (at n : ℕ) → at + n ≤ length s → length (take n (drop at s)) ≡ n
 part_length s at n h = length-take-le n (drop at s) (simp length-drop (omega arith))
 
-held_one : (s : List ℕ) (at : ℕ) → at + 1 ≤ length s → held_at s (At at 1) ≡ some (octet s at ∷ [])
-held_one s at h = held_at_lem s at 1 h ∙ ap some (rw (drop-cons s at 0 (omega arith)))
+held_one : (s : List ℕ) (at : ℕ) → at + 1 ≤ length s → held_at s (At at 1) ≡ Some (octet s at ∷ [])
+held_one s at h = held_at_lem s at 1 h ∙ ap Some (rw (drop-cons s at 0 (omega arith)))
 
-held_two : (s : List ℕ) (at : ℕ) → at + 2 ≤ length s → held_at s (At at 2) ≡ some (octet s at ∷ octet s (at + 1) ∷ [])
-held_two s at h = held_at_lem s at 2 h ∙ ap some (rw (add-one, drop-cons s at 0 (omega arith), drop-cons s (suc at) 0 (omega arith)))
+held_two : (s : List ℕ) (at : ℕ) → at + 2 ≤ length s → held_at s (At at 2) ≡ Some (octet s at ∷ octet s (at + 1) ∷ [])
+held_two s at h = held_at_lem s at 2 h ∙ ap Some (rw (add-one, drop-cons s at 0 (omega arith), drop-cons s (suc at) 0 (omega arith)))
 
-held_absent : (s : List ℕ) → held_at s Absent ≡ none
+held_absent : (s : List ℕ) → held_at s Absent ≡ None
 unfolding held_at
 held_absent s = refl
 

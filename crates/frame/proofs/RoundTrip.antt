@@ -1,11 +1,11 @@
 -- Reading what any edition writes gives the message back, and the number of its extension fields. Closed field by field: each field's reader,
 -- on the octets that its writer puts behind a front, answers where they stand.
+use Rattle.std.specs.Prelude.{None, Option, Some}
 use Prim.Native.Nat.{ℕ, zero, suc, ◌+◌, ◌*◌, ◌/◌, ◌%◌, ◌≤◌, ◌<◌}
 use native.Mathlib.Omega.{arith}
 use native.Mathlib.Nat.{mul-one, mul-zero, add-zero, add-suc}
 use mathlib.Core.List.{List, [], ◌∷◌, ◌++◌, append_assoc, append-nil}
 use mathlib.Core.Bool.{Bool, true, false}
-use mathlib.Core.Option.{Option, none, some}
 use mathlib.Core.Path.{◌≡◌, refl, sym, ap, ◌∙◌}
 use lib.ListN.{length, drop, length-append}
 use lib.Seq.{get_or-append_seam, get_or-append-add, drop-append-add, take-append_seam, take-append-add}
@@ -29,16 +29,16 @@ use Rattle.frame.proofs.WriterLaws.{Sound, sound, sender_range, data_range}
 
 -- where a field stands that is written at `at`
 abbrev type_field : Option ℕ → ℕ → Field
-type_field none at = Absent
-type_field (some x) at = At at 1
+type_field None at = Absent
+type_field (Some x) at = At at 1
 
 abbrev number_field : Option ℕ → ℕ → Field
-number_field none at = Absent
-number_field (some x) at = At at 2
+number_field None at = Absent
+number_field (Some x) at = At at 2
 
 abbrev long_field : Option (List ℕ) → ℕ → Field
-long_field none at = Absent
-long_field (some s) at = At at (length s)
+long_field None at = Absent
+long_field (Some s) at = At at (length s)
 
 -- ---- octets behind a front
 
@@ -49,7 +49,7 @@ at_seam_1 : (pre : List ℕ) (x y : ℕ) (rest : List ℕ) → octet (pre ++ (x 
 at_seam_1 pre x y rest = get_or-append-add pre (x ∷ y ∷ rest) 1 0
 
 -- a part that starts k octets behind the front, after the octets h
-held_behind : (s pre h t rest : List ℕ) (k : ℕ) → length h ≡ k → s ≡ pre ++ (h ++ (t ++ rest)) → held_at s (At (length pre + k) (length t)) ≡ some t
+held_behind : (s pre h t rest : List ℕ) (k : ℕ) → length h ≡ k → s ≡ pre ++ (h ++ (t ++ rest)) → held_at s (At (length pre + k) (length t)) ≡ Some t
 unfolding held_at
 held_behind s pre h t rest k l q =
     let n = simp length-append at (ap length q) in
@@ -60,35 +60,35 @@ module _ (s pre rest : List ℕ) where
   type_read : (k : Option ℕ) → s ≡ pre ++ (type_octets k ++ rest) →
       fixed_at s (present k) 1 (length pre) ≡ Got (type_field k (length pre)) (length (pre ++ type_octets k))
   unfolding fixed_at octets_at
-  type_read none q = simp append-nil
-  type_read (some x) q =
+  type_read None q = simp append-nil
+  type_read (Some x) q =
       let n = simp length-append at (ap length q) in
       simp (le-leb (length pre + 1) (length s) (omega arith), length-append)
 
   type_value : (k : Option ℕ) → s ≡ pre ++ (type_octets k ++ rest) → one_octet (held_at s (type_field k (length pre))) ≡ k
   unfolding held_at
-  type_value none q = refl
-  type_value (some x) q = simp (rw add-zero at (held_behind s pre [] (x ∷ []) rest 0 refl q))
+  type_value None q = refl
+  type_value (Some x) q = simp (rw add-zero at (held_behind s pre [] (x ∷ []) rest 0 refl q))
 
   number_read : (k : Option ℕ) → s ≡ pre ++ (number_octets k ++ rest) →
       fixed_at s (present k) 2 (length pre) ≡ Got (number_field k (length pre)) (length (pre ++ number_octets k))
   unfolding fixed_at octets_at
-  number_read none q = simp append-nil
-  number_read (some x) q =
+  number_read None q = simp append-nil
+  number_read (Some x) q =
       let n = simp length-append at (ap length q) in
       simp (le-leb (length pre + 2) (length s) (omega arith), length-append)
 
   number_value : (k : Option ℕ) → s ≡ pre ++ (number_octets k ++ rest) → two_octets (held_at s (number_field k (length pre))) ≡ k
   unfolding held_at
-  number_value none q = refl
-  number_value (some x) q =
-      simp (rw add-zero at (held_behind s pre [] (x / 256 ∷ x % 256 ∷ []) rest 0 refl q)) (ap some (omega arith))
+  number_value None q = refl
+  number_value (Some x) q =
+      simp (rw add-zero at (held_behind s pre [] (x / 256 ∷ x % 256 ∷ []) rest 0 refl q)) (ap Some (omega arith))
 
   sender_read : (k : Option (List ℕ)) → s ≡ pre ++ (sender_octets k ++ rest) → wrong_sender k ≡ false →
       sender_at s (present k) (length pre) ≡ Got (long_field k (length pre + 1)) (length (pre ++ sender_octets k))
   unfolding sender_at octets_at
-  sender_read none q h = simp append-nil
-  sender_read (some t) q h =
+  sender_read None q h = simp append-nil
+  sender_read (Some t) q h =
       let l = sender_range t h in
       let n = simp length-append at (ap length q) in
       let o : octet s (length pre) ≡ length t = simp q (at_seam pre (length t) (t ++ rest)) in
@@ -104,14 +104,14 @@ module _ (s pre rest : List ℕ) where
 
   sender_value : (k : Option (List ℕ)) → s ≡ pre ++ (sender_octets k ++ rest) → held_at s (long_field k (length pre + 1)) ≡ k
   unfolding held_at
-  sender_value none q = refl
-  sender_value (some t) q = held_behind s pre (length t ∷ []) t rest 1 refl q
+  sender_value None q = refl
+  sender_value (Some t) q = held_behind s pre (length t ∷ []) t rest 1 refl q
 
   data_read : (k : Option (List ℕ)) → s ≡ pre ++ (data_octets k ++ rest) → wrong_data k ≡ false →
       data_at s (present k) (length pre) ≡ Got (long_field k (length pre + 2)) (length (pre ++ data_octets k))
   unfolding data_at octets_at
-  data_read none q h = simp append-nil
-  data_read (some t) q h =
+  data_read None q h = simp append-nil
+  data_read (Some t) q h =
       let l = data_range t h in
       let n = simp length-append at (ap length q) in
       let o : number s (length pre) ≡ length t =
@@ -127,8 +127,8 @@ module _ (s pre rest : List ℕ) where
 
   data_value : (k : Option (List ℕ)) → s ≡ pre ++ (data_octets k ++ rest) → held_at s (long_field k (length pre + 2)) ≡ k
   unfolding held_at
-  data_value none q = refl
-  data_value (some t) q = held_behind s pre (length t / 256 ∷ length t % 256 ∷ []) t rest 2 refl q
+  data_value None q = refl
+  data_value (Some t) q = held_behind s pre (length t / 256 ∷ length t % 256 ∷ []) t rest 2 refl q
 
 -- ---- extension fields
 

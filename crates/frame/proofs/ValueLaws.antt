@@ -1,9 +1,9 @@
 -- What a field holds: one law for each way out of the functions that read a header's fields. Closed by `simp` with the tests, or by cases.
+use Rattle.std.specs.Prelude.{None, Option, Some}
 use Prim.Native.Nat.{ℕ, ◌+◌, ◌-◌, ◌*◌, ◌<◌, ◌≤◌}
 use native.Mathlib.Omega.{arith}
 use native.Mathlib.Nat.{add-sub_cancel_left}
 use mathlib.Core.List.{List, [], ◌∷◌}
-use mathlib.Core.Option.{Option, none, some}
 use mathlib.Core.Path.{◌≡◌, refl, ap, ◌∙◌}
 use lib.ListN.{length, get_or, take, drop}
 use borrow.Author.Tests.{le-leb, lt-leb}
@@ -31,45 +31,45 @@ module _ (s : List ℕ) (f : Field) where
 
 -- ---- a type is one octet, a number two
 
-one : (h : Option (List ℕ)) → length (octets_or h) ≡ 1 → some (get_or (octets_or h) 0 0) ≡ one_octet h
-one none e = absurd (omega arith)
-one (some []) e = absurd (omega arith)
-one (some (x ∷ [])) e = refl
-one (some (x ∷ y ∷ s)) e = absurd (omega arith)
+one : (h : Option (List ℕ)) → length (octets_or h) ≡ 1 → Some (get_or (octets_or h) 0 0) ≡ one_octet h
+one None e = absurd (omega arith)
+one (Some []) e = absurd (omega arith)
+one (Some (x ∷ [])) e = refl
+one (Some (x ∷ y ∷ s)) e = absurd (omega arith)
 
-not_one : (h : Option (List ℕ)) → (length (octets_or h) ≡ 1 → ⊥) → none ≡ one_octet h
-not_one none e = refl
-not_one (some []) e = refl
-not_one (some (x ∷ [])) e = absurd (e refl)
-not_one (some (x ∷ y ∷ s)) e = refl
+not_one : (h : Option (List ℕ)) → (length (octets_or h) ≡ 1 → ⊥) → None ≡ one_octet h
+not_one None e = refl
+not_one (Some []) e = refl
+not_one (Some (x ∷ [])) e = absurd (e refl)
+not_one (Some (x ∷ y ∷ s)) e = refl
 
-two : (h : Option (List ℕ)) → length (octets_or h) ≡ 2 → some (get_or (octets_or h) 0 0 * 256 + get_or (octets_or h) 1 0) ≡ two_octets h
-two none e = absurd (omega arith)
-two (some []) e = absurd (omega arith)
-two (some (x ∷ [])) e = absurd (omega arith)
-two (some (x ∷ y ∷ [])) e = refl
-two (some (x ∷ y ∷ z ∷ s)) e = absurd (omega arith)
+two : (h : Option (List ℕ)) → length (octets_or h) ≡ 2 → Some (get_or (octets_or h) 0 0 * 256 + get_or (octets_or h) 1 0) ≡ two_octets h
+two None e = absurd (omega arith)
+two (Some []) e = absurd (omega arith)
+two (Some (x ∷ [])) e = absurd (omega arith)
+two (Some (x ∷ y ∷ [])) e = refl
+two (Some (x ∷ y ∷ z ∷ s)) e = absurd (omega arith)
 
-not_two : (h : Option (List ℕ)) → (length (octets_or h) ≡ 2 → ⊥) → none ≡ two_octets h
-not_two none e = refl
-not_two (some []) e = refl
-not_two (some (x ∷ [])) e = refl
-not_two (some (x ∷ y ∷ [])) e = absurd (e refl)
-not_two (some (x ∷ y ∷ z ∷ s)) e = refl
+not_two : (h : Option (List ℕ)) → (length (octets_or h) ≡ 2 → ⊥) → None ≡ two_octets h
+not_two None e = refl
+not_two (Some []) e = refl
+not_two (Some (x ∷ [])) e = refl
+not_two (Some (x ∷ y ∷ [])) e = absurd (e refl)
+not_two (Some (x ∷ y ∷ z ∷ s)) e = refl
 
 module _ (s : List ℕ) (f : Field) (o : List ℕ) (q : o ≡ part_at s f) where
-  pub octet_one : length o ≡ 1 → some (get_or o 0 0) ≡ one_octet (held_at s f)
+  pub octet_one : length o ≡ 1 → Some (get_or o 0 0) ≡ one_octet (held_at s f)
   unfolding part_at
   octet_one e = rw q (one (held_at s f) (rw q at e))
 
-  pub octet_none : (length o ≡ 1 → ⊥) → none ≡ one_octet (held_at s f)
+  pub octet_none : (length o ≡ 1 → ⊥) → None ≡ one_octet (held_at s f)
   unfolding part_at
   octet_none e = not_one (held_at s f) (λ z. e (ap length q ∙ z))
 
-  pub number_two : length o ≡ 2 → (x y : ℕ) → x ≡ get_or o 0 0 → y ≡ get_or o 1 0 → some (x * 256 + y) ≡ two_octets (held_at s f)
+  pub number_two : length o ≡ 2 → (x y : ℕ) → x ≡ get_or o 0 0 → y ≡ get_or o 1 0 → Some (x * 256 + y) ≡ two_octets (held_at s f)
   unfolding part_at
   number_two e x y ex ey = rw (ex, ey, q) (two (held_at s f) (rw q at e))
 
-  pub number_none : (length o ≡ 2 → ⊥) → none ≡ two_octets (held_at s f)
+  pub number_none : (length o ≡ 2 → ⊥) → None ≡ two_octets (held_at s f)
   unfolding part_at
   number_none e = not_two (held_at s f) (λ z. e (ap length q ∙ z))

@@ -1,10 +1,10 @@
 -- The writer: its tests, each way out, what they make sure of; what each field's writer has put, and how a frame grows field by field.
+use Rattle.std.specs.Prelude.{None, Option, Some}
 use Prim.Native.Nat.{ℕ, suc, ◌+◌, ◌/◌, ◌%◌, ◌<◌, ◌≤◌}
 use native.Mathlib.Omega.{arith}
 use native.Mathlib.Nat.{zero-add}
 use mathlib.Core.List.{List, [], ◌∷◌, ◌++◌, append-nil}
 use mathlib.Core.Bool.{Bool, true, false, not}
-use mathlib.Core.Option.{Option, none, some}
 use mathlib.Core.Path.{◌≡◌, refl, sym, ap, ◌∙◌}
 use lib.ListN.{length}
 use lib.Seq.{sets}
@@ -105,7 +105,7 @@ pub record Sound (m : Message) : Type 0 where
   pub sender_right : wrong_sender m.sender ≡ false
   pub data_right : wrong_data m.user_data ≡ false
 
-past : (a b c : Bool) (x y z : Refusal) → pick a (some x) (pick b (some y) (pick c (some z) none)) ≡ none → (a ≡ false) × (b ≡ false) × (c ≡ false)
+past : (a b c : Bool) (x y z : Refusal) → pick a (Some x) (pick b (Some y) (pick c (Some z) None)) ≡ None → (a ≡ false) × (b ≡ false) × (c ≡ false)
 past false false false x y z h = (refl, refl, refl)
 past true b c x y z h = let n : ◌≡◌ {A = ℕ} 0 1 = cc in absurd (omega arith)
 past false true c x y z h = let n : ◌≡◌ {A = ℕ} 0 1 = cc in absurd (omega arith)
@@ -129,52 +129,52 @@ pub allowed : (m : Message) → Sound m → Allowed m
 unfolding fault_in
 allowed m w = rw (le-ltb 4 m.confirmation w.confirmation_low, w.nothing_lacks, w.sender_right, w.data_right)
 
-pub sender_range : (s : List ℕ) → wrong_sender (some s) ≡ false → (0 < length s) × (length s ≤ 32)
+pub sender_range : (s : List ℕ) → wrong_sender (Some s) ≡ false → (0 < length s) × (length s ≤ 32)
 unfolding wrong_sender
 sender_range s h =
     let v = neither (eqb (length s) 0) (ltb 32 (length s)) h in
     let z = eqb-false (length s) 0 v.0 in
     (omega arith, ltb-false 32 (length s) v.1)
 
-pub data_range : (s : List ℕ) → wrong_data (some s) ≡ false → length s ≤ 512
+pub data_range : (s : List ℕ) → wrong_data (Some s) ≡ false → length s ≤ 512
 unfolding wrong_data
 data_range s h = ltb-false 512 (length s) h
 
 pub sender_33 : (o : Option (List ℕ)) → wrong_sender o ≡ false → length (sender_octets o) ≤ 33
-sender_33 none h = omega arith
-sender_33 (some s) h = let v = sender_range s h in omega arith
+sender_33 None h = omega arith
+sender_33 (Some s) h = let v = sender_range s h in omega arith
 
 pub data_514 : (o : Option (List ℕ)) → wrong_data o ≡ false → length (data_octets o) ≤ 514
-data_514 none h = omega arith
-data_514 (some s) h = let v = data_range s h in omega arith
+data_514 None h = omega arith
+data_514 (Some s) h = let v = data_range s h in omega arith
 
 pub type_1 : (o : Option ℕ) → length (type_octets o) ≤ 1
-type_1 none = omega arith
-type_1 (some x) = omega arith
+type_1 None = omega arith
+type_1 (Some x) = omega arith
 
 pub number_2 : (o : Option ℕ) → length (number_octets o) ≤ 2
-number_2 none = omega arith
-number_2 (some n) = omega arith
+number_2 None = omega arith
+number_2 (Some n) = omega arith
 
 -- ---- the answer
 
-roomy : (b : Bool) (o : Option Refusal) → pick b (some NoRoom) o ≡ none → (b ≡ false) × (o ≡ none)
+roomy : (b : Bool) (o : Option Refusal) → pick b (Some NoRoom) o ≡ None → (b ≡ false) × (o ≡ None)
 roomy true o e = let n : ◌≡◌ {A = ℕ} 0 1 = cc in absurd (omega arith)
 roomy false o e = (refl, e)
 
-pub refused_none : (room : ℕ) (m : Message) → refusal_of room m ≡ none → (1024 ≤ room) × Allowed m
+pub refused_none : (room : ℕ) (m : Message) → refusal_of room m ≡ None → (1024 ≤ room) × Allowed m
 unfolding refusal_of
 refused_none room m e =
     let w = roomy (ltb room 1024) (fault_in m) e in
     (ltb-false room 1024 w.0, w.1)
 
-check_fits : (o : Option Refusal) → check_of o ≡ Fits → o ≡ none
-check_fits none e = refl
-check_fits (some r) e = let n : ◌≡◌ {A = ℕ} 0 1 = cc in absurd (omega arith)
+check_fits : (o : Option Refusal) → check_of o ≡ Fits → o ≡ None
+check_fits None e = refl
+check_fits (Some r) e = let n : ◌≡◌ {A = ℕ} 0 1 = cc in absurd (omega arith)
 
-check_fails : (o : Option Refusal) (r : Refusal) → check_of o ≡ Fails r → o ≡ some r
-check_fails none r e = let n : ◌≡◌ {A = ℕ} 0 1 = cc in absurd (omega arith)
-check_fails (some x) r e = ap some (cc)
+check_fails : (o : Option Refusal) (r : Refusal) → check_of o ≡ Fails r → o ≡ Some r
+check_fails None r e = let n : ◌≡◌ {A = ℕ} 0 1 = cc in absurd (omega arith)
+check_fails (Some x) r e = ap Some (cc)
 
 module _ (m : Message) (b : List ℕ) (k : Check) (q : k ≡ check_of (refusal_of (length b) m)) where
   pub fits_room : k ≡ Fits → Room m b

@@ -1,7 +1,6 @@
 -- The frame without extensions of a received frame, and edition 1 frames.
 -- "a frame without extensions has bit 7 clear" (01, "Events, lines and the listing").
-use Rattle.std.specs.Prelude.{ℕ, ◌-◌, ◌%◌, List, [], ◌∷◌, Bool, false, length, take, drop, leb, ltb, eqb}
-use Rattle.std.proofs.Math.Option.{Option, none, some}
+use Rattle.std.specs.Prelude.{ℕ, ◌-◌, ◌%◌, List, [], ◌∷◌, Bool, false, length, take, drop, leb, ltb, eqb, None, Option, Some}
 use Rattle.octets.specs.Choice.{pick, both}
 use Rattle.frame.specs.Reading.{octet, reading_of}
 use Rattle.frame.specs.declared.Reading.{Reading}
@@ -23,11 +22,11 @@ bare s = bare_in s (reading_of s)
 
 -- stripping refuses with 6 below 1,024 octets, then with the frame's fault
 abbrev pub fault_asked : Reading → Option Refusal
-fault_asked (Whole h n) = none
-fault_asked (Faulty f) = some (Wrong f)
+fault_asked (Whole h n) = None
+fault_asked (Faulty f) = Some (Wrong f)
 
 unfoldable pub strip_refusal : (room : ℕ) → List ℕ → Option Refusal
-strip_refusal room s = pick (ltb room 1024) (some NoRoom) (fault_asked (reading_of s))
+strip_refusal room s = pick (ltb room 1024) (Some NoRoom) (fault_asked (reading_of s))
 
 -- an edition 1 frame: a valid frame that carries no extension fields
 abbrev pub none_follow : Reading → Bool

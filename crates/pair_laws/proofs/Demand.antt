@@ -1,6 +1,6 @@
 -- DEMAND 3 OF EVERY RUN. Closed by induction on the run: the beginning keeps the invariant, each command keeps it, and it gives the demand.
+use Rattle.std.specs.Prelude.{None, Option, Some}
 use mathlib.Core.Path.{◌≡◌, refl}
-use mathlib.Core.Option.{Option, none, some}
 use mathlib.Core.Bool.{Bool, true, false}
 use mathlib.Core.List.{List, [], ◌∷◌}
 use Prim.Native.Nat.{ℕ}
@@ -34,8 +34,8 @@ inv_vetted : (x : Fields) (a : Terms) (o : Option Msg) {s : Setup} {u : State} {
     Inv (world (at s u d h f acc ans) b out inn next) →
     Inv (ask_with x (asked_ids o) (busy u) (start_comes inn) (on_vetted a o u) (world (at s u d h f acc ans) b out inn next))
 unfolding asked_ids on_vetted ask_at
-inv_vetted x a none {u} {inn} i = rw (ask_refused x [] (busy u) (start_comes inn) 2) i
-inv_vetted x a (some m) {u} i = rw (shot_is (body_of m).maintained a m u) (inv_ask (bar a m u) (body_of m).maintained x a m refl i)
+inv_vetted x a None {u} {inn} i = rw (ask_refused x [] (busy u) (start_comes inn) 2) i
+inv_vetted x a (Some m) {u} i = rw (shot_is (body_of m).maintained a m u) (inv_ask (bar a m u) (body_of m).maintained x a m refl i)
 
 pub inv_near : (c : Act) (w : World) → Inv w → Inv (do_near c w)
 unfolding do_near ask_near tick_near tick_at on_request

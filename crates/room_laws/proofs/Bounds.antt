@@ -1,8 +1,8 @@
 -- Every event's lines are within 1,024 octets and ten lines, in every state of a unit. Closed by cases on the state and on what was read.
+use Rattle.std.specs.Prelude.{None, Option, Some}
 use Prim.Native.Nat.{ℕ, zero, suc, ◌≤◌}
 use mathlib.Core.Path.{◌≡◌}
 use mathlib.Core.Bool.{Bool, true, false}
-use mathlib.Core.Option.{Option, none, some}
 use mathlib.Core.List.{List, [], ◌∷◌}
 use native.Mathlib.Omega.{arith}
 use lib.ListN.{length}
@@ -57,7 +57,7 @@ give_short a m h = omega arith
 module _ (a : Terms) (m : Msg) (h : length (frame_octets (msg m)) ≤ 554) where
   single_fits : (st : State) → Fits (on_single a m st)
   unfolding on_single
-  single_fits idle = one (send (start (settled a) (some (good (msg m) 0)))) 558 (omega arith) (omega arith)
+  single_fits idle = one (send (start (settled a) (Some (good (msg m) 0)))) 558 (omega arith) (omega arith)
   single_fits (single T w t) = barred
   single_fits (multi T k t) = barred
   single_fits (ending T w t) = barred
@@ -65,12 +65,12 @@ module _ (a : Terms) (m : Msg) (h : length (frame_octets (msg m)) ≤ 554) where
 
   multi_fits : (b : Option ℕ) (st : State) → Fits (on_multi b a m st)
   unfolding on_multi
-  multi_fits b idle = one (send (start (settled a) none)) 4 (omega arith) (omega arith)
+  multi_fits b idle = one (send (start (settled a) None)) 4 (omega arith) (omega arith)
   multi_fits b (single T w t) = barred
   multi_fits b (multi T k t) = barred
   multi_fits b (ending T w t) = barred
-  multi_fits (some n) (assoc T w t) = barred
-  multi_fits none (assoc T w t) = one (send (dat (good (msg m) 0))) 555 (omega arith) (omega arith)
+  multi_fits (Some n) (assoc T w t) = barred
+  multi_fits None (assoc T w t) = one (send (dat (good (msg m) 0))) 555 (omega arith) (omega arith)
 
   shot_fits : (b : Bool) (st : State) → Fits (on_shot b a m st)
   unfolding on_shot
@@ -124,20 +124,20 @@ module _ (s : Setup) (named : length s.name ≤ 32) where
   unfolding greet
   greet_fits true a e m h = fits (seen_within e (line (send (cut 10)) 2 (omega arith) nothing)) (omega arith) (omega arith)
   greet_fits false a e (plain i r q b) h =
-      fits (seen_within e (line (give a (plain i r q b)) 558 (give_short a (plain i r q b) h) (line (send (reply false none)) 2 (omega arith) nothing)))
+      fits (seen_within e (line (give a (plain i r q b)) 558 (give_short a (plain i r q b) h) (line (send (reply false None)) 2 (omega arith) nothing)))
       (omega arith) (omega arith)
   greet_fits false a e (sure i r q b) h =
       let l = ack_short s named i b in
       fits (seen_within e (line (give a (sure i r q b)) 558 (give_short a (sure i r q b) h)
-      (line (send (reply false (some (good (ack s i b) 0)))) 40 (omega arith) nothing)))
+      (line (send (reply false (Some (good (ack s i b) 0)))) 40 (omega arith) nothing)))
       (omega arith) (omega arith)
 
   first_fits : (a : Terms) (f : Option Reading) → length (held_octets f) ≤ 554 → Fits (first_contact s a f)
   unfolding first_contact
-  first_fits a none h = one (send (reply true none)) 2 (omega arith) (omega arith)
-  first_fits a (some (bad n)) h = one (send (cut n)) 2 (omega arith) (omega arith)
-  first_fits a (some (good (msg m) e)) h = greet_fits (body_of m).maintained a e m h
-  first_fits a (some (good (note k r i q b) e)) h = fits (seen_within e (line (send (cut 10)) 2 (omega arith) nothing)) (omega arith) (omega arith)
+  first_fits a None h = one (send (reply true None)) 2 (omega arith) (omega arith)
+  first_fits a (Some (bad n)) h = one (send (cut n)) 2 (omega arith) (omega arith)
+  first_fits a (Some (good (msg m) e)) h = greet_fits (body_of m).maintained a e m h
+  first_fits a (Some (good (note k r i q b) e)) h = fits (seen_within e (line (send (cut 10)) 2 (omega arith) nothing)) (omega arith) (omega arith)
 
   pub start_fits : (a : Terms) (f : Option Reading) (st : State) → length (held_octets f) ≤ 554 → Fits (on_start s a f st)
   unfolding on_start
@@ -151,19 +151,19 @@ module _ (s : Setup) (named : length s.name ≤ 32) where
   answered_fits : (w : List ℕ) (f : Option Reading) → length (held_octets f) ≤ 554 → Fits (done idle (answered_by s w f))
   unfolding answered_by
   answered_fits [] f h = quiet
-  answered_fits (i ∷ w) none h =
+  answered_fits (i ∷ w) None h =
       let l = local_short s named false unknown i in
       one (answer i uncertain (local s false unknown i)) 40 (omega arith) (omega arith)
-  answered_fits (i ∷ w) (some (bad n)) h =
+  answered_fits (i ∷ w) (Some (bad n)) h =
       let l = local_short s named false unknown i in
       one (answer i uncertain (local s false unknown i)) 40 (omega arith) (omega arith)
-  answered_fits (i ∷ w) (some (good f e)) h =
+  answered_fits (i ∷ w) (Some (good f e)) h =
       fits (seen_within e (line (answer i (single_result f) f) 556 (omega arith) nothing)) (omega arith) (omega arith)
 
   begun_fits : (a : Terms) (k : Msg) (f : Option Reading) → length (ids_of k) ≤ 8 → length (msg_octets k) ≤ 554 → Fits (begun s a k f)
   unfolding begun frame_octets frame_message msg_octets
-  begun_fits a k none h l = one (send (dat (good (msg k) 0))) 555 (omega arith) (omega arith)
-  begun_fits a k (some f) h l = fall_fits true (ids_of k) 10 h
+  begun_fits a k None h l = one (send (dat (good (msg k) 0))) 555 (omega arith) (omega arith)
+  begun_fits a k (Some f) h l = fall_fits true (ids_of k) 10 h
 
   pub reply_fits : (b : Bool) (f : Option Reading) (st : State) → length (waiting_of st) ≤ 8 → length (held_by st) ≤ 554 → length (held_octets f) ≤ 554
       → Fits (on_reply s b f st)
@@ -179,8 +179,8 @@ module _ (s : Setup) (named : length s.name ≤ 32) where
   -- ---- 12
   noted_fits : (st : State) (e : ℕ) (k : Kind) (r : ℕ) (f : Frame) (v : Option (List ℕ)) → length (frame_octets f) ≤ 554 → Fits (done st (noted e k r f v))
   unfolding noted
-  noted_fits st e k r f none h = fits (seen_within e nothing) (omega arith) (omega arith)
-  noted_fits st e k r f (some v) h = fits (seen_within e (line (answer r (result_of k) f) 556 (omega arith) nothing)) (omega arith) (omega arith)
+  noted_fits st e k r f None h = fits (seen_within e nothing) (omega arith) (omega arith)
+  noted_fits st e k r f (Some v) h = fits (seen_within e (line (answer r (result_of k) f) 556 (omega arith) nothing)) (omega arith) (omega arith)
 
   pub data_fits : (f : Reading) (st : State) → length (waiting_of st) ≤ 8 → length (read_octets f) ≤ 554 → Fits (on_dat s f st)
   unfolding on_dat waiting_of

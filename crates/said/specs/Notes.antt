@@ -1,7 +1,6 @@
 -- The confirmations that the unit makes itself: acknowledgements and local answers.
 -- No public contract speaks of this file, only contracts of functions inside a crate: a reader of 01 may skip it.
-use Rattle.std.specs.Prelude.{ℕ, List, ◌∷◌, ◌≡◌}
-use Rattle.std.proofs.Math.Option.{none}
+use Rattle.std.specs.Prelude.{ℕ, List, ◌∷◌, ◌≡◌, None}
 use Rattle.frame.specs.declared.Header.{Header}
 use Rattle.frame.specs.Decoding.{octet_in, message_at}
 use Rattle.book.specs.View.{needed, frame_octets, kind_for}
@@ -13,8 +12,8 @@ use Rattle.said.specs.declared.Say.{Say}
 -- confirmation, reference, multiShot bit and type as the note says; the unit's name as sender; nothing else
 abbrev pub note_frame : Note → (name : List ℕ) → Frame
 note_frame n name =
-    note (kind_for n.confirmation) n.reference none name
-    (record { maintained = n.multi_shot; type = octet_in n.message_type; user_data = none })
+    note (kind_for n.confirmation) n.reference None name
+    (record { maintained = n.multi_shot; type = octet_in n.message_type; user_data = None })
 
 unfoldable pub note_octets : Note → (name : List ℕ) → List ℕ
 note_octets n name = frame_octets (note_frame n name)

@@ -1,8 +1,8 @@
 -- 12 D-DATA indication: one law for each way out. Closed by cases on the state and on where the reference stands.
+use Rattle.std.specs.Prelude.{None, Option, Some}
 use Prim.Native.Nat.{ℕ, zero, suc, ◌+◌, ◌<◌, ◌≤◌, ◌/◌, ◌%◌}
 use mathlib.Core.Path.{◌≡◌, refl, ap, sym, ◌∙◌}
 use mathlib.Core.Bool.{Bool, true, false}
-use mathlib.Core.Option.{Option, none, some}
 use mathlib.Core.List.{List, [], ◌∷◌, ◌++◌, append-nil}
 use native.Mathlib.Omega.{arith}
 use borrow.Author.Tests.{ne_eqb}
@@ -62,7 +62,7 @@ seen_some n z h l = laid_as (seen_line n z h) l
 
 ack_fields : (a : Note) (m : Message) (name : List ℕ) → a.multi_shot ≡ m.multi_shot → octet_in a.message_type ≡ m.message_type →
     a.reference ≡ needed m.message_identifier → a.confirmation ≡ 2 →
-    note_frame a name ≡ note ok (needed m.message_identifier) none name (record { maintained = m.multi_shot; type = m.message_type; user_data = none })
+    note_frame a name ≡ note ok (needed m.message_identifier) None name (record { maintained = m.multi_shot; type = m.message_type; user_data = None })
 ack_fields a m name es et er ec = rw (es, et, er, ec)
 
 pub ack_octets : (s : Setup) (f : List ℕ) (h : Header) (a : Note) → AckOf f h a →
@@ -86,8 +86,8 @@ place_bump x k [] = refl
 place_bump x k (y ∷ w) = rw (place_bump x (suc k) w) (pick_bump (eqb x y) (Place k) (place_of x (suc k) w))
 
 cut_out : List ℕ → Found → Option (List ℕ)
-cut_out w Nowhere = none
-cut_out w (Place i) = some (take i w ++ drop (suc i) w)
+cut_out w Nowhere = None
+cut_out w (Place i) = Some (take i w ++ drop (suc i) w)
 
 cut_step : (b : Bool) (y : ℕ) (w : List ℕ) (f : Found) → without_in b y w (cut_out w f) ≡ cut_out (y ∷ w) (pick b (Place 0) (bump f))
 unfolding cut_out without_in bump
@@ -100,11 +100,11 @@ unfolding without cut_out
 without_found x [] = refl
 without_found x (y ∷ w) = rw (without_found x w, place_bump x 0 w) (cut_step (eqb x y) y w (place_of x 0 w))
 
-pub without_none : (x : ℕ) (w : List ℕ) → place_of x 0 w ≡ Nowhere → without x w ≡ none
+pub without_none : (x : ℕ) (w : List ℕ) → place_of x 0 w ≡ Nowhere → without x w ≡ None
 unfolding cut_out
 without_none x w e = without_found x w ∙ ap (cut_out w) e
 
-pub without_some : (x i : ℕ) (w : List ℕ) → place_of x 0 w ≡ Place i → without x w ≡ some (take i w ++ drop (suc i) w)
+pub without_some : (x i : ℕ) (w : List ℕ) → place_of x 0 w ≡ Place i → without x w ≡ Some (take i w ++ drop (suc i) w)
 unfolding cut_out
 without_some x i w e = without_found x w ∙ ap (cut_out w) e
 
@@ -150,7 +150,7 @@ module _ (s : Setup) (u : Value) where
   sure_assoc (assoc a w t) e z i r q b n = record { next = assoc a w 0; outcome = rw e; value = rested_assoc s a w t u e }
 
   note_none : (st : State) → u ≡ picture s st → takes u.state 6 ≡ true → (k : Kind) (r : ℕ) (i : Option ℕ) (q : List ℕ) (b : Body) (n : ℕ) →
-      without r (waiting_of st) ≡ none → Goes s (on_dat s (good (note k r i q b) n) st) (rested u) (with_seen n [])
+      without r (waiting_of st) ≡ None → Goes s (on_dat s (good (note k r i q b) n) st) (rested u) (with_seen n [])
   unfolding on_dat takes waiting_of noted left_waiting
   note_none idle e t k r i q b n o = not_taken (rw e at t)
   note_none (single a w t₀) e t k r i q b n o = not_taken (rw e at t)
@@ -159,7 +159,7 @@ module _ (s : Setup) (u : Value) where
   note_none (assoc a w t₀) e t k r i q b n o = record { next = assoc a w 0; outcome = rw o; value = rested_assoc s a w t₀ u e }
 
   note_some : (st : State) → u ≡ picture s st → takes u.state 6 ≡ true → (k : Kind) (r : ℕ) (i : Option ℕ) (q : List ℕ) (b : Body) (n j : ℕ) →
-      without r (waiting_of st) ≡ some (take j (waiting_of st) ++ drop (suc j) (waiting_of st)) → j < length (waiting_of st) → length (waiting_of st) ≤ 8 →
+      without r (waiting_of st) ≡ Some (take j (waiting_of st) ++ drop (suc j) (waiting_of st)) → j < length (waiting_of st) → length (waiting_of st) ≤ 8 →
       Goes s (on_dat s (good (note k r i q b) n) st) (removed (rested u) j) (with_seen n (answer r (result_of k) (note k r i q b) ∷ []))
   unfolding on_dat takes waiting_of noted left_waiting
   note_some idle e t k r i q b n j o h l = not_taken (rw e at t)

@@ -1,8 +1,8 @@
 -- 01 and 02: one law for each way out. Closed by cases on the state, and by the tests on the way.
+use Rattle.std.specs.Prelude.{None, Option, Some}
 use Prim.Native.Nat.{ℕ, zero, suc, ◌<◌, ◌≤◌}
 use mathlib.Core.Path.{◌≡◌, refl, ap, sym, ◌∙◌}
 use mathlib.Core.Bool.{Bool, true, false, not}
-use mathlib.Core.Option.{Option, none, some}
 use mathlib.Core.List.{List, [], ◌∷◌, ◌++◌, append-nil}
 use native.Mathlib.Omega.{arith}
 use borrow.Author.Tests.{le-leb, lt-leb}
@@ -107,7 +107,7 @@ module _ (f : List ℕ) (h : Header) (u : Value) where
 
 module _ (s : Setup) (u : Value) where
   single_goes : (st : State) → u ≡ picture s st → u.state ≡ 0 → (a : Terms) (m : Msg) →
-      Goes s (on_single a m st) (joined (entered u 1 (settled a)) (ids_of m)) (send (start (settled a) (some (good (msg m) 0))) ∷ [])
+      Goes s (on_single a m st) (joined (entered u 1 (settled a)) (ids_of m)) (send (start (settled a) (Some (good (msg m) 0))) ∷ [])
   unfolding on_single
   single_goes idle e n a m = record { next = single (settled a) (ids_of m) 0; outcome = refl; value = opened_single s (settled a) u e m }
   single_goes (single T w t) e n a m = let z : ◌≡◌ {A = ℕ} 1 0 = rw e at n in absurd (omega arith)
@@ -116,7 +116,7 @@ module _ (s : Setup) (u : Value) where
   single_goes (assoc T w t) e n a m = let z : ◌≡◌ {A = ℕ} 4 0 = rw e at n in absurd (omega arith)
 
   multi_goes : (st : State) → u ≡ picture s st → u.state ≡ 0 → (o : Option ℕ) (a : Terms) (m : Msg) →
-      Goes s (on_multi o a m st) (joined (keeping (entered u 2 (settled a)) (msg_octets m)) (ids_of m)) (send (start (settled a) none) ∷ [])
+      Goes s (on_multi o a m st) (joined (keeping (entered u 2 (settled a)) (msg_octets m)) (ids_of m)) (send (start (settled a) None) ∷ [])
   unfolding on_multi
   multi_goes idle e n o a m = record { next = multi (settled a) m 0; outcome = refl; value = opened_multi s (settled a) u e m }
   multi_goes (single T w t) e n o a m = let z : ◌≡◌ {A = ℕ} 1 0 = rw e at n in absurd (omega arith)
@@ -126,7 +126,7 @@ module _ (s : Setup) (u : Value) where
 
   -- the refusal that a message meets in Associated
   abbrev barred : Terms → Msg → Option ℕ
-  barred a m = pick (same_terms (settled a) u.terms) (bar_confirmed m (ids_in u)) (some 3)
+  barred a m = pick (same_terms (settled a) u.terms) (bar_confirmed m (ids_in u)) (Some 3)
 
   bar_is : (st : State) → u ≡ picture s st → u.state ≡ 4 → (a : Terms) (m : Msg) → bar a m st ≡ barred a m
   unfolding bar
@@ -134,9 +134,9 @@ module _ (s : Setup) (u : Value) where
   bar_is (single T w t) e n a m = let z : ◌≡◌ {A = ℕ} 1 4 = rw e at n in absurd (omega arith)
   bar_is (multi T k t) e n a m = let z : ◌≡◌ {A = ℕ} 2 4 = rw e at n in absurd (omega arith)
   bar_is (ending T w t) e n a m = let z : ◌≡◌ {A = ℕ} 3 4 = rw e at n in absurd (omega arith)
-  bar_is (assoc T w t) e n a m = rw e (ap (λ l. pick (same_terms (settled a) T) (bar_confirmed m l) (some 3)) (sym (Rattle.turn_laws.proofs.Moved.take-padded 8 w)))
+  bar_is (assoc T w t) e n a m = rw e (ap (λ l. pick (same_terms (settled a) T) (bar_confirmed m l) (Some 3)) (sym (Rattle.turn_laws.proofs.Moved.take-padded 8 w)))
 
-  refused_is : (st : State) → u ≡ picture s st → u.state ≡ 4 → (k : ℕ) (a : Terms) (m : Msg) → on_multi (some k) a m st ≡ refused k
+  refused_is : (st : State) → u ≡ picture s st → u.state ≡ 4 → (k : ℕ) (a : Terms) (m : Msg) → on_multi (Some k) a m st ≡ refused k
   unfolding on_multi
   refused_is idle e n k a m = let z : ◌≡◌ {A = ℕ} 0 4 = rw e at n in absurd (omega arith)
   refused_is (single T w t) e n k a m = let z : ◌≡◌ {A = ℕ} 1 4 = rw e at n in absurd (omega arith)
@@ -145,7 +145,7 @@ module _ (s : Setup) (u : Value) where
   refused_is (assoc T w t) e n k a m = refl
 
   next_plain : (st : State) → u ≡ picture s st → u.state ≡ 4 → (a : Terms) (m : Msg) → ids_of m ≡ [] →
-      Goes s (on_multi none a m st) (advanced u 4 0) (send (dat (good (msg m) 0)) ∷ [])
+      Goes s (on_multi None a m st) (advanced u 4 0) (send (dat (good (msg m) 0)) ∷ [])
   unfolding on_multi
   next_plain idle e n a m i = let z : ◌≡◌ {A = ℕ} 0 4 = rw e at n in absurd (omega arith)
   next_plain (single T w t) e n a m i = let z : ◌≡◌ {A = ℕ} 1 4 = rw e at n in absurd (omega arith)
@@ -155,7 +155,7 @@ module _ (s : Setup) (u : Value) where
       record { next = assoc T w 0; outcome = ap (λ l. done (assoc T l 0) (send (dat (good (msg m) 0)) ∷ [])) (ap (λ l. w ++ l) i ∙ append-nil w); value = fresh_is s T w t u e }
 
   next_sure : (st : State) → u ≡ picture s st → u.state ≡ 4 → u.count < 8 → (a : Terms) (m : Msg) (i : ℕ) → ids_of m ≡ i ∷ [] →
-      Goes s (on_multi none a m st) (appended (advanced u 4 0) i) (send (dat (good (msg m) 0)) ∷ [])
+      Goes s (on_multi None a m st) (appended (advanced u 4 0) i) (send (dat (good (msg m) 0)) ∷ [])
   unfolding on_multi
   next_sure idle e n l a m i q = let z : ◌≡◌ {A = ℕ} 0 4 = rw e at n in absurd (omega arith)
   next_sure (single T w t) e n l a m i q = let z : ◌≡◌ {A = ℕ} 1 4 = rw e at n in absurd (omega arith)
@@ -249,7 +249,7 @@ module _ {u : Value} (k : Ready u) {f : List ℕ} {h : Header} (w : Reads f h 0)
           on_multi (bar a (msg_at f h) (state_of u)) a (msg_at f h) (state_of u) ≡ refused 3
       ask_3 et eb z =
           ap (λ o. on_multi o a M T)
-          (bar_is S u T k.whole n a M ∙ ap (λ y. pick y (bar_confirmed M (ids_in u)) (some 3)) (ap (λ y. same_terms y u.terms) (sym et) ∙ sym eb ∙ borrow.Author.Tests.not-true _ z))
+          (bar_is S u T k.whole n a M ∙ ap (λ y. pick y (bar_confirmed M (ids_in u)) (Some 3)) (ap (λ y. same_terms y u.terms) (sym et) ∙ sym eb ∙ borrow.Author.Tests.not-true _ z))
           ∙ refused_is S u T k.whole n 3 a M
 
       pub same_made : {t : Terms} {b : Bool} → t ≡ settled a → b ≡ same_terms t u.terms → not b ≡ false → same_terms (settled a) u.terms ≡ true
@@ -257,7 +257,7 @@ module _ {u : Value} (k : Ready u) {f : List ℕ} {h : Header} (w : Reads f h 0)
 
       module _ (same : same_terms (settled a) u.terms ≡ true) where
         bar_same : bar a M T ≡ bar_confirmed M (ids_in u)
-        bar_same = bar_is S u T k.whole n a M ∙ ap (λ y. pick y (bar_confirmed M (ids_in u)) (some 3)) same
+        bar_same = bar_is S u T k.whole n a M ∙ ap (λ y. pick y (bar_confirmed M (ids_in u)) (Some 3)) same
 
         line_is : h.confirmation < 2 → (0x32 ∷ bare_to f h.end) ∷ [] ≡ said (send (dat (good (msg M) 0)) ∷ [])
         unfolding msg_octets frame_octets frame_message
@@ -278,33 +278,33 @@ module _ {u : Value} (k : Ready u) {f : List ℕ} {h : Header} (w : Reads f h 0)
           unfolding ids_of message_at
           id_is = ap ids_of (msg_sure f h c) ∙ ap (λ y. y ∷ []) (sym (er ∙ ap needed ei))
 
-          bar_found : bar a M T ≡ pick (found g) (some 4) (pick (leb 8 (length (ids_in u))) (some 5) none)
+          bar_found : bar a M T ≡ pick (found g) (Some 4) (pick (leb 8 (length (ids_in u))) (Some 5) None)
           unfolding bar_confirmed full message_at
           bar_found =
               bar_same ∙ ap (λ m. bar_confirmed m (ids_in u)) (msg_sure f h c)
-              ∙ ap (λ y. pick y (some 4) (pick (leb 8 (length (ids_in u))) (some 5) none))
+              ∙ ap (λ y. pick y (Some 4) (pick (leb 8 (length (ids_in u))) (Some 5) None))
               (ap (λ y. waits y (ids_in u)) (sym (er ∙ ap needed ei)) ∙ waits_found id 0 (ids_in u) ∙ ap found (sym eg))
 
           pub ask_4 : {j : ℕ} → g ≡ Place j → on_multi (bar a (msg_at f h) (state_of u)) a (msg_at f h) (state_of u) ≡ refused 4
           unfolding found
-          ask_4 e = ap (λ o. on_multi o a M T) (bar_found ∙ ap (λ y. pick (found y) (some 4) (pick (leb 8 (length (ids_in u))) (some 5) none)) e) ∙ refused_is S u T k.whole n 4 a M
+          ask_4 e = ap (λ o. on_multi o a M T) (bar_found ∙ ap (λ y. pick (found y) (Some 4) (pick (leb 8 (length (ids_in u))) (Some 5) None)) e) ∙ refused_is S u T k.whole n 4 a M
 
           module _ (e : g ≡ Nowhere) where
-            bar_full : bar a M T ≡ pick (leb 8 u.count) (some 5) none
+            bar_full : bar a M T ≡ pick (leb 8 u.count) (Some 5) None
             unfolding found
             bar_full =
-                bar_found ∙ ap (λ y. pick (found y) (some 4) (pick (leb 8 (length (ids_in u))) (some 5) none)) e
-                ∙ ap (λ y. pick (leb 8 y) (some 5) none) (length-take-le u.count u.waiting (omega arith))
+                bar_found ∙ ap (λ y. pick (found y) (Some 4) (pick (leb 8 (length (ids_in u))) (Some 5) None)) e
+                ∙ ap (λ y. pick (leb 8 y) (Some 5) None) (length-take-le u.count u.waiting (omega arith))
 
             pub ask_5 : 8 ≤ u.count → on_multi (bar a (msg_at f h) (state_of u)) a (msg_at f h) (state_of u) ≡ refused 5
-            ask_5 l = ap (λ o. on_multi o a M T) (bar_full ∙ ap (λ y. pick y (some 5) none) (le-leb 8 u.count l)) ∙ refused_is S u T k.whole n 5 a M
+            ask_5 l = ap (λ o. on_multi o a M T) (bar_full ∙ ap (λ y. pick y (Some 5) None) (le-leb 8 u.count l)) ∙ refused_is S u T k.whole n 5 a M
 
             pub asked_next_sure : {v x : Value} {r : Turn} {before after : List ℕ} {p : Pen} → u.count < 8
                 → Laid before fresh ((0x32 ∷ bare_to f h.end) ∷ []) after p → v ≡ advanced u 4 0 → x ≡ appended v id
                 → r ≡ record { unit = x; verdict = Done p.lines p.at }
                 → Turned u (on_multi (bar a (msg_at f h) (state_of u)) a (msg_at f h) (state_of u)) before r after
             asked_next_sure l y ev ex q =
-                turned_as (ap (λ o. on_multi o a M T) (bar_full ∙ ap (λ y. pick y (some 5) none) (lt-leb 8 u.count l)))
+                turned_as (ap (λ o. on_multi o a M T) (bar_full ∙ ap (λ y. pick y (Some 5) None) (lt-leb 8 u.count l)))
                 (went (next_sure S u T k.whole n l a M id id_is) (ex ∙ ap (λ z. appended z id) ev) (line_is (omega arith)) y q)
 
 -- ---- by the turn table
@@ -337,13 +337,13 @@ module _ {u : Value} (k : Ready u) where
 
 -- ---- from the octets
 
-vet_extended : (c : Bool) (f : Frame) (n : ℕ) → (n ≡ 0 → ⊥) → vet c (good f n) ≡ none
+vet_extended : (c : Bool) (f : Frame) (n : ℕ) → (n ≡ 0 → ⊥) → vet c (good f n) ≡ None
 unfolding vet
 vet_extended c f zero z = absurd (z refl)
 vet_extended c f (suc n) z = refl
 
 -- the confirmation that a request wants, and every other
-vet_no : (c : Bool) (k : ℕ) (m : Message) → (k ≡ weight c 1 → ⊥) → vet c (good (viewed_as k m) 0) ≡ none
+vet_no : (c : Bool) (k : ℕ) (m : Message) → (k ≡ weight c 1 → ⊥) → vet c (good (viewed_as k m) 0) ≡ None
 unfolding vet
 vet_no true zero m n = refl
 vet_no true (suc zero) m n = absurd (n refl)
@@ -353,10 +353,10 @@ vet_no c (suc (suc zero)) m n = refl
 vet_no c (suc (suc (suc zero))) m n = refl
 vet_no c (suc (suc (suc (suc k)))) m n = refl
 
-vet_yes : (c : Bool) (k : ℕ) (m : Message) → k ≡ weight c 1 → vet c (good (viewed_as k m) 0) ≡ some (msg_in (good (viewed_as k m) 0))
+vet_yes : (c : Bool) (k : ℕ) (m : Message) → k ≡ weight c 1 → vet c (good (viewed_as k m) 0) ≡ Some (msg_in (good (viewed_as k m) 0))
 unfolding vet
-vet_yes true k m e = ap (λ (k : ℕ). vet true (good (viewed_as k m) 0)) e ∙ sym (ap (λ (k : ℕ). some (msg_in (good (viewed_as k m) 0))) e)
-vet_yes false k m e = ap (λ (k : ℕ). vet false (good (viewed_as k m) 0)) e ∙ sym (ap (λ (k : ℕ). some (msg_in (good (viewed_as k m) 0))) e)
+vet_yes true k m e = ap (λ (k : ℕ). vet true (good (viewed_as k m) 0)) e ∙ sym (ap (λ (k : ℕ). Some (msg_in (good (viewed_as k m) 0))) e)
+vet_yes false k m e = ap (λ (k : ℕ). vet false (good (viewed_as k m) 0)) e ∙ sym (ap (λ (k : ℕ). Some (msg_in (good (viewed_as k m) 0))) e)
 
 module _ (u : Value) (confirmed : Bool) (a : Terms) (f : List ℕ) {x : Answer} (q : x ≡ reading_of f) where
   pub ask_faulty : {y : Fault} → x ≡ Faulty y → on_request confirmed a (reading_in f) (state_of u) ≡ refused 2

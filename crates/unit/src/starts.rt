@@ -1,6 +1,5 @@
 // The events that begin a dialogue: 10, and 11 in the two start states.
-ghost use Rattle.std.specs.Prelude.{◌≡◌, true, false, [], ◌∷◌, ◌≤◌, ◌<◌, length};
-ghost use Rattle.std.proofs.Math.Option.{none, some};
+ghost use Rattle.std.specs.Prelude.{◌≡◌, true, false, [], ◌∷◌, ◌≤◌, ◌<◌, length, None, Some};
 ghost use Rattle.book.specs.Book.{on_start, on_reply, first_contact, good, done, idle, with_seen, send, cut};
 ghost use Rattle.book.specs.Picture.{setup_of, state_of};
 ghost use Rattle.book.specs.Turns.{takes};
@@ -63,7 +62,7 @@ fn on_greeted(u: Unit, a: Terms, frame: &[u8], h: Header, n: usize, out: &mut [u
 // 10 without a frame.
 fn on_opened(u: Unit, a: Terms, out: &mut [u8]) -> Turn
     requires { (Ready u) × ((u.state ≡ 0) × (1024 ≤ length out.old)) }
-    ensures { Turned u (first_contact (setup_of u) a none) out.old result out.new }
+    ensures { Turned u (first_contact (setup_of u) a None) out.old result out.new }
 {
     let line = [0x31, 0];
     let done = lines::put_line(out, Pen { at: 0, lines: 0 }, &line);
@@ -104,7 +103,7 @@ pub(crate) fn on_start(u: Unit, a: Terms, frame: &[u8], out: &mut [u8]) -> Turn
 // The one that waits in Start-single answered uncertain.
 fn on_unanswered(u: Unit, out: &mut [u8]) -> Turn
     requires { (Ready u) × ((u.state ≡ 1) × ((1 ≤ u.count) × (1024 ≤ length out.old))) }
-    ensures { Turned u (on_reply (setup_of u) false none (state_of u)) out.old result out.new }
+    ensures { Turned u (on_reply (setup_of u) false None (state_of u)) out.old result out.new }
 {
     let say = Say {
         result: 2,
@@ -121,7 +120,7 @@ fn on_unanswered(u: Unit, out: &mut [u8]) -> Turn
 // The one that waits in Start-single answered by a valid frame.
 fn on_answered(u: Unit, frame: &[u8], h: Header, n: usize, out: &mut [u8]) -> Turn
     requires { (Ready u) × ((u.state ≡ 1) × ((1 ≤ u.count) × ((Reads frame.now h n) × (1024 ≤ length out.old)))) }
-    ensures { Turned u (on_reply (setup_of u) false (some (good (frame_at frame.now h) n)) (state_of u)) out.old result out.new }
+    ensures { Turned u (on_reply (setup_of u) false (Some (good (frame_at frame.now h) n)) (state_of u)) out.old result out.new }
 {
     let pen = data::put_seen(out, n);
     let done = data::put_confirmed(out, pen, h, frame);
@@ -151,7 +150,7 @@ fn on_single_answer(u: Unit, frame: &[u8], out: &mut [u8]) -> Turn
 // 11 accepted in Start-multi, without a frame: the kept frame goes out.
 fn on_begun(u: Unit, out: &mut [u8]) -> Turn
     requires { (Ready u) × ((u.state ≡ 2) × (1024 ≤ length out.old)) }
-    ensures { Turned u (on_reply (setup_of u) true none (state_of u)) out.old result out.new }
+    ensures { Turned u (on_reply (setup_of u) true None (state_of u)) out.old result out.new }
 {
     let kept = u.kept;
     let done = lines::put_kept(out, Pen { at: 0, lines: 0 }, kept, u.octets);
@@ -163,7 +162,7 @@ fn on_begun(u: Unit, out: &mut [u8]) -> Turn
 // 11 rejected in Start-multi.
 fn on_turned_down(u: Unit, out: &mut [u8]) -> Turn
     requires { (Ready u) × ((u.state ≡ 2) × (1024 ≤ length out.old)) }
-    ensures { Turned u (on_reply (setup_of u) false none (state_of u)) out.old result out.new }
+    ensures { Turned u (on_reply (setup_of u) false None (state_of u)) out.old result out.new }
 {
     let say = Say {
         result: 1,
