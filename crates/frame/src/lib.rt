@@ -14,30 +14,22 @@ ghost use Rattle.frame.specs.declared.Refusal.TheVariants.{Faulty};
 mod reader;
 mod writer;
 
-// What may be wrong with a frame.
+// What may be wrong with a frame, each with 01's number.
 #[derive(Clone, Copy, PartialEq, Eq)]
 pub enum Fault {
-    TooLong,
-    Incomplete,
-    BadOctet,
-    BadLength,
-    Lacking,
-    LeftOver,
+    TooLong = 11,
+    Incomplete = 12,
+    BadOctet = 13,
+    BadLength = 14,
+    Lacking = 15,
+    LeftOver = 16,
 }
 
-// 01's number of a fault.
 impl From<Fault> for u8 {
     ghost from_gives = { λ f n. n ≡ fault_number f };
 
     fn from(f: Fault) -> u8 {
-        match f {
-            Fault::TooLong => 11,
-            Fault::Incomplete => 12,
-            Fault::BadOctet => 13,
-            Fault::BadLength => 14,
-            Fault::Lacking => 15,
-            Fault::LeftOver => 16,
-        }
+        f as u8
     }
 }
 
@@ -115,6 +107,8 @@ pub fn read(frame: &[u8]) -> Result<Whole, Fault>
     let (flags, confirmation) = reader::open(frame)?;
     reader::fields(frame, flags, confirmation)
 }
+
+// Frame and place stay two arguments of these: a header outlives the loan of the frame, and each answers of any two.
 
 // The octets of a field, as that part of the caller's frame; the empty part of an absent field, or of one that does not lie within the frame.
 pub fn part(frame: &[u8], place: Option<Place>) -> &[u8]

@@ -1,4 +1,5 @@
 // The field readers. Each answers the field and the place after it, or the fault.
+// Frame and place stay two arguments, no cursor: one answer of `Result` then holds all that a reader found, for `let else` to take apart.
 ghost use Rattle.std.specs.Prelude.{◌≡◌, ◌<◌, length};
 ghost use Rattle.frame.specs.Message.{lacks};
 ghost use Rattle.frame.specs.Reading.{bit, opened, fixed_at, sender_at, data_at, extension_at, extensions_from, rest_at, fields_of};
@@ -108,7 +109,7 @@ fn extensions(frame: &[u8], start: usize) -> Result<usize, Fault>
 {
     let mut at = start;
     let mut n: usize = 0;
-    // No `for`: how far a turn goes is what the frame says there.
+    // Counted by hand: how far a turn goes is what the frame says there, and a fault ends it, so no iterator is plainer.
     while at < frame.len() {
         let (_, next) = extension(frame, at)?;
         at = next;
@@ -160,7 +161,8 @@ pub(crate) fn open(frame: &[u8]) -> Result<(u8, u8), Fault>
     Ok((flags, confirmation))
 }
 
-// The fields, from octet 2 on. (Each answer is taken apart by `let else`, not by `?`: a rule of the project for this place.)
+// The fields, from octet 2 on. A rule of the project asks for `let else` here: each field reader's answer is taken apart, the fault handed up at
+// once.
 pub(crate) fn fields(frame: &[u8], flags: u8, confirmation: u8) -> Result<Whole, Fault>
     ensures { result ≡ fields_of frame.now flags confirmation }
 {
