@@ -1,0 +1,4 @@
+pub mod LineLaws
+pub mod MoveLaws
+pub mod TableLaws
+pub mod TurnLaws

@@ -1,0 +1,43 @@
+// One turn of a unit that is changed where it is lent, whatever it is held as: by value, or as its image. Rules: 01, "The five states".
+#![tactic(auto)]
+
+ghost use Rattle.std.specs.Prelude.{◌≤◌, length, drop};
+ghost use Rattle.book.specs.Events.{event_of, frame_from};
+ghost use Rattle.book.specs.Picture.{setup_of, state_of};
+ghost use Rattle.book.specs.Ready.{Ready};
+ghost use Rattle.book.specs.Step.{does};
+ghost use Rattle.turn.specs.Acts.{Acted};
+
+use book::{Event, Verdict};
+use moves::Held;
+use state::events;
+
+mod data;
+mod ends;
+mod lines;
+pub mod moves;
+mod requests;
+mod starts;
+
+// An event that a sound unit gets.
+pub fn act<H: Held>(u: &mut H, event: &[u8], out: &mut [u8]) -> Verdict
+    requires ready { Ready (H.unit u.old) }
+    requires room { 1024 ≤ length out.old }
+    ensures { Acted (H.unit u.old) (does (setup_of (H.unit u.old)) (event_of event.now) (drop (frame_from (event_of event.now)) event.now) (state_of (H.unit u.old))) out.old result (H.unit u.new) out.new }
+{
+    match events::event_of(event) {
+        Event::Malformed => Verdict::Refused(8),
+        Event::Transfer(confirmed, terms) => {
+            requests::on_request(u, confirmed, terms, said::after(event, 4), out)
+        }
+        Event::End => ends::on_end(u, out),
+        Event::Tick => ends::on_tick(u, out),
+        Event::StartAsked(terms) => starts::on_start(u, terms, said::after(event, 4), out),
+        Event::StartAnswered(accepted) => starts::on_reply(u, accepted, said::after(event, 2), out),
+        Event::Data => data::on_data(u, said::after(event, 1), out),
+        Event::EndAsked => ends::on_end_asked(u, out),
+        Event::EndAnswered(accepted) => ends::on_end_answered(u, out, accepted),
+        Event::Aborted => ends::on_abort(u, out, 0),
+        Event::Dropped => ends::on_abort(u, out, 1),
+    }
+}
