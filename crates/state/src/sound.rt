@@ -29,17 +29,10 @@ pub fn clear(s: &[u8]) -> bool
     bits == 0
 }
 
-fn clear_ids(s: &[u16]) -> bool
+pub fn clear_ids(s: &[u16]) -> bool
     ensures { result ≡ zeros s.now }
 {
-    let mut i = 0;
-    while i < s.len() {
-        if s[i] != 0 {
-            return false;
-        }
-        i += 1;
-    }
-    true
+    s.iter().all(|id| *id == 0)
 }
 
 fn among(s: &[u16], id: u16) -> bool
