@@ -4,4 +4,5 @@ pub mod Table
 pub mod EventLaws
 pub mod KeptLaws
 pub mod Sounds
+pub mod SoundImage
 pub mod OneResult

@@ -1,4 +1,5 @@
 pub mod LineLaws
 pub mod MoveLaws
+pub mod PlaceLaws
 pub mod TableLaws
 pub mod TurnLaws

@@ -7,7 +7,7 @@ ghost use Rattle.book.specs.Turns.{takes};
 ghost use Rattle.book.specs.Ready.{Ready, Reads};
 ghost use Rattle.turn.specs.Acts.{Acted};
 
-use crate::moves::Held;
+use crate::held::Held;
 use crate::{ends, lines, moves};
 use book::{Found, Verdict};
 use frame::{Header, Reading};

@@ -8,7 +8,7 @@ ghost use Rattle.said.specs.Pens.{Laid};
 ghost use Rattle.said.specs.Saying.{said, maintains, doubts};
 ghost use Rattle.turn.specs.Acts.{Acted};
 
-use crate::moves::Held;
+use crate::held::Held;
 use crate::{lines, moves};
 use book::Verdict;
 use said::{Pen, Say};

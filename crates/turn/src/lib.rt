@@ -9,15 +9,19 @@ ghost use Rattle.book.specs.Step.{does};
 ghost use Rattle.turn.specs.Acts.{Acted};
 
 use book::{Event, Verdict};
-use moves::Held;
+use held::Held;
 use state::events;
 
 mod data;
 mod ends;
+pub mod held;
+mod in_place;
 mod lines;
-pub mod moves;
+mod moves;
 mod requests;
 mod starts;
+mod stores;
+mod value;
 
 // An event that a sound unit gets.
 pub fn act<H: Held>(u: &mut H, event: &[u8], out: &mut [u8]) -> Verdict

@@ -12,8 +12,8 @@ ghost use Rattle.said.specs.Saying.{seen_lines};
 
 use book::{Terms, Verdict};
 use frame::{Header, OneOctet};
+use image::seen::Seen;
 use said::{Note, Pen, Say};
-use state::seen::Seen;
 
 // An accepted event: what was laid.
 pub(crate) fn finished(pen: Pen) -> Verdict

@@ -8,7 +8,7 @@ ghost use Rattle.turn_laws.specs.Moves.{joined};
 ghost use Rattle.said.specs.Saying.{msg_at};
 ghost use Rattle.turn.specs.Acts.{Acted};
 
-use crate::moves::Held;
+use crate::held::Held;
 use crate::{lines, moves};
 use book::{Found, Terms, Verdict};
 use frame::{Header, Reading};

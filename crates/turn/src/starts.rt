@@ -8,7 +8,7 @@ ghost use Rattle.book.specs.View.{frame_at};
 ghost use Rattle.said.specs.Saying.{greeted};
 ghost use Rattle.turn.specs.Acts.{Acted};
 
-use crate::moves::Held;
+use crate::held::Held;
 use crate::{ends, lines, moves};
 use book::{Terms, Verdict};
 use frame::{Header, Reading};
