@@ -1,4 +1,5 @@
 pub mod LineLaws
+pub mod MadeLaws
 pub mod MoveLaws
 pub mod PlaceLaws
 pub mod TableLaws

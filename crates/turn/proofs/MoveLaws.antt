@@ -9,7 +9,6 @@ use lib.Seq.{get_or-append-add}
 use Rattle.book.specs.Book.{State, idle, single, multi, ending, assoc, Setup, ids_of}
 use Rattle.book.specs.Picture.{padded, picture, setup_of, state_of}
 use Rattle.book.specs.Ready.{Ready}
-use Rattle.book.specs.Sound.{limit_of}
 use Rattle.book.specs.Waiting.{place_of}
 use Rattle.book.specs.declared.Found.TheVariants.{Place}
 use Rattle.book.specs.declared.Unit.{Unit as Value}
@@ -64,18 +63,3 @@ module _ {u : Value} (k : Ready u) (x i n : ℕ) {r : ℕ} (e : place_of x i (dr
 
   pub found_on : (x ≡ r → ⊥) → place_of x (i + 1) (drop (i + 1) (take n u.waiting)) ≡ place_of x 0 (take n u.waiting)
   found_on z = find_on x i n u.waiting e h (omega (arith, k.eight, k.few)) (λ y. z (y ∙ sym q))
-
--- ---- the limit of the state that a unit is in
-
-module _ (u : Value) {n r : ℕ} (e : n ≡ u.state) where
-  pub limit_4 : n ≡ 4 → r ≡ u.inactivity → r ≡ limit_of u
-  unfolding limit_of
-  limit_4 h q = q ∙ rw (eq-eqb u.state 4 (sym e ∙ h))
-
-  pub limit_3 : (n ≡ 4 → ⊥) → n ≡ 3 → r ≡ u.end → r ≡ limit_of u
-  unfolding limit_of
-  limit_3 z h q = q ∙ rw (ne_eqb u.state 4 (λ y. z (e ∙ y)), eq-eqb u.state 3 (sym e ∙ h))
-
-  pub limit_1 : (n ≡ 4 → ⊥) → (n ≡ 3 → ⊥) → r ≡ u.start → r ≡ limit_of u
-  unfolding limit_of
-  limit_1 z y q = q ∙ rw (ne_eqb u.state 4 (λ x. z (e ∙ x)), ne_eqb u.state 3 (λ x. y (e ∙ x)))

@@ -39,7 +39,11 @@ use lib.Dec.{eqb}
 pub as_turn : {v : Value} {r x : Verdict} → r ≡ x → ◌≡◌ {A = Turn} (record { unit = v; verdict = r }) (record { unit = v; verdict = x })
 as_turn {v} e = ap (λ y. record { unit = v; verdict = y }) e
 
--- a refusal: image and buffer as they were
+pub as_refused : (u : Value) {n : ℕ} {r : Verdict} → r ≡ Refused n → ◌≡◌ {A = Turn} (record { unit = u; verdict = r }) (turn_of u (refused n))
+unfolding turn_of
+as_refused u e = as_turn e
+
+-- a refusal: unit and buffer as they were
 pub refused_in_place : (u : Value) {o : Outcome} {n : ℕ} {before : List ℕ} {r : Verdict} → o ≡ refused n → r ≡ Refused n
     → Turned u o before (record { unit = u; verdict = r }) before
 unfolding turn_of octets_of

@@ -5,9 +5,14 @@ use Rattle.book.specs.Book.{Outcome}
 use Rattle.book.specs.Step.{Turned}
 use Rattle.book.specs.declared.Unit.{Unit as Value}
 use Rattle.book.specs.declared.Verdict.{Verdict}
+use Rattle.book.specs.declared.Turn.{Turn}
 
 abbrev pub Acted : (u : Value) (o : Outcome) (before : List ℕ) (r : Verdict) (u' : Value) (after : List ℕ) → Type 0
 Acted u o before r u' after = Turned u o before (record { unit = u'; verdict = r }) after
+
+-- what a setup left is what was to be set up
+abbrev pub SetTo : (u : Value) (r : Verdict) → Turn → Type 0
+SetTo u r t = record { unit = u; verdict = r } ≡ t
 
 -- the places of the waiting list behind those that wait are 0
 abbrev pub NoneBehind : Value → Type 0

@@ -12,6 +12,7 @@ use crate::held::Held;
 use crate::{lines, moves};
 use book::Verdict;
 use said::{Pen, Say};
+use state::sound;
 
 // Every waiting identifier answered uncertain.
 pub(crate) fn put_uncertain<H: Held>(out: &mut [u8], pen: Pen, u: &H) -> Pen
@@ -93,7 +94,7 @@ pub(crate) fn on_tick<H: Held>(u: &mut H, out: &mut [u8]) -> Verdict
     if s == 0 {
         return lines::finished(Pen { at: 0, lines: 0 });
     }
-    let limit = moves::limit(u);
+    let limit = sound::limit_of(u);
     let e = u.elapsed() + 1;
     if e < limit {
         u.at_elapsed(s, e);

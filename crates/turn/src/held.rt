@@ -1,13 +1,18 @@
 // A unit that can be moved, whatever it is held as: each move changes it where it is lent.
 ghost use Rattle.std.specs.Prelude.{◌≡◌, ◌≤◌, ◌<◌, length, replicate};
 ghost use Rattle.book.specs.Ready.{Ready};
-ghost use Rattle.turn_laws.specs.Moves.{advanced, entered, cleared, keeping, appended, removed};
+ghost use Rattle.turn_laws.specs.Moves.{made, advanced, entered, cleared, keeping, appended, removed};
 ghost use Rattle.turn.specs.Acts.{NoneBehind};
 
 use book::Terms;
 use image::seen::Seen;
 
 pub trait Held: Seen {
+    // A new unit in Idle, in place of the one that was held: its limits in ticks, its name, and how many letters of it count.
+    fn make(&mut self, start: u16, end: u16, inactivity: u16, name: [u8; 32], letters: usize)
+        requires { letters ≤ 32 }
+        ensures { Self.unit self.new ≡ made start end inactivity name letters };
+
     // The same dialogue, in another state or at another tick.
     fn at_elapsed(&mut self, state: u8, elapsed: u16)
         ensures { Self.unit self.new ≡ advanced (Self.unit self.old) state elapsed };

@@ -1,8 +1,9 @@
 // The moves of a unit in its image: no unit is copied.
-ghost use Rattle.std.specs.Prelude.{◌≡◌};
+ghost use Rattle.std.specs.Prelude.{◌≡◌, []};
 ghost use Rattle.book.specs.Ready.{Ready};
-ghost use Rattle.image.specs.Image.{unit_of};
+ghost use Rattle.image.specs.Image.{unit_of, rest_octets};
 ghost use Rattle.image.specs.Fields.{forgotten};
+ghost use Rattle.turn_laws.specs.Moves.{made};
 
 use crate::held::Held;
 use crate::stores;
@@ -19,7 +20,42 @@ fn forget(image: &mut [u8; 618])
     stores::set_octets(image, 0);
 }
 
+// The state and what stands behind it in an image, for a unit in Idle.
+fn rest_of(start: u16, end: u16, inactivity: u16, letters: u8) -> [u8; 16]
+    ensures { result ≡ rest_octets (made start end inactivity [] letters) }
+{
+    let [start_high, start_low] = start.to_be_bytes();
+    let [end_high, end_low] = end.to_be_bytes();
+    let [inactivity_high, inactivity_low] = inactivity.to_be_bytes();
+    [
+        0,
+        start_high,
+        start_low,
+        end_high,
+        end_low,
+        inactivity_high,
+        inactivity_low,
+        0,
+        0,
+        0,
+        0,
+        0,
+        letters,
+        0,
+        0,
+        0,
+    ]
+}
+
 impl Held for [u8; 618] {
+    fn make(&mut self, start: u16, end: u16, inactivity: u16, name: [u8; 32], letters: usize) {
+        let rest = rest_of(start, end, inactivity, letters as u8);
+        octets::put(self, 0, &name);
+        self[32..48].fill(0);
+        self[48..602].fill(0);
+        octets::put(self, 602, &rest);
+    }
+
     fn at_elapsed(&mut self, state: u8, elapsed: u16) {
         stores::set_state(self, state);
         stores::set_elapsed(self, elapsed);

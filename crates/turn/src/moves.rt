@@ -1,7 +1,6 @@
 // What an event asks of a unit, and the move that needs no form of its own.
 ghost use Rattle.std.specs.Prelude.{◌≡◌, take};
 ghost use Rattle.book.specs.Ready.{Ready};
-ghost use Rattle.book.specs.Sound.{limit_of};
 ghost use Rattle.book.specs.Turns.{takes};
 ghost use Rattle.book.specs.Waiting.{place_of};
 ghost use Rattle.turn_laws.specs.Moves.{rested};
@@ -38,15 +37,4 @@ pub(crate) fn find<H: Seen>(u: &H, id: u16) -> Found
         }
     }
     Found::Nowhere
-}
-
-// The limit of the state that a unit is in.
-pub(crate) fn limit<H: Seen>(u: &H) -> u16
-    ensures { result ≡ limit_of (H.unit u.now) }
-{
-    let s = u.state();
-    if s == 4 {
-        return u.inactivity();
-    }
-    if s == 3 { u.end() } else { u.start() }
 }

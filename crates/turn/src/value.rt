@@ -5,6 +5,27 @@ use state::waiting;
 
 #[tactic(auto, unfolding(turn_laws::specs::Moves::advanced, turn_laws::specs::Moves::entered, turn_laws::specs::Moves::cleared, turn_laws::specs::Moves::waiting_with))]
 impl Held for Unit {
+    fn make(&mut self, start: u16, end: u16, inactivity: u16, name: [u8; 32], letters: usize) {
+        *self = Unit {
+            name,
+            waiting: [0; 8],
+            kept: [0; 554],
+            state: 0,
+            start,
+            end,
+            inactivity,
+            elapsed: 0,
+            terms: Terms {
+                class: 0,
+                priority: 0,
+                rer: 0,
+            },
+            letters,
+            count: 0,
+            octets: 0,
+        };
+    }
+
     fn at_elapsed(&mut self, state: u8, elapsed: u16) {
         self.state = state;
         self.elapsed = elapsed;
