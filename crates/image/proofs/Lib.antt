@@ -5,3 +5,4 @@ pub mod RoundTrip
 pub mod Near
 pub mod StoreLaws
 pub mod ReaderLaws
+pub mod OneResult

@@ -1,7 +1,8 @@
 // Whether a unit is sound, whatever it is held as.
-ghost use Rattle.std.specs.Prelude.{◌≡◌, ◌+◌, ◌≤◌, length, take, slice_range};
+ghost use Rattle.std.specs.Prelude.{◌≡◌, ℕ, ◌+◌, ◌<◌, ◌≤◌, length, take, get_or, slice_range};
+ghost use Rattle.std.specs.Bool.{OnTrue};
 ghost use Rattle.octets.specs.Choice as Choice;
-ghost use Rattle.book.specs.Sound.{differ, within_limits, setup_sound, ids_sound, limit_of, idle_sound, busy_sound, kept_none, kept_reads, kept_good, kept_sound, state_sound, sound_of};
+ghost use Rattle.book.specs.Sound.{differ, within_limits, setup_sound, ids_sound, limit_of, idle_sound, busy_sound, kept_reads, kept_sound, state_sound, sound_of};
 ghost use Rattle.book.specs.Book.{good, waits};
 ghost use Rattle.book.specs.View.{reading_in, frame_at};
 ghost use Rattle.book.specs.Ready.{Reads, Ready};
@@ -31,7 +32,8 @@ pub fn within_limits(start: u16, end: u16, inactivity: u16, letters: usize) -> b
 
 #[tactic(auto, unfolding(book::specs::Sound::setup_sound))]
 fn setup_sound<S: Seen>(u: &S) -> bool
-    ensures { result ≡ setup_sound (S.unit u.now) }
+    ensures value { result ≡ setup_sound (S.unit u.now) }
+    ensures places { OnTrue result (length (S.unit u.now).name ≡ 32) }
 {
     within_limits(u.start(), u.end(), u.inactivity(), u.letters()) && u.is_name_clear()
 }
@@ -59,7 +61,8 @@ fn distinct<S: Seen>(u: &S, n: usize) -> bool
 
 #[tactic(auto, unfolding(book::specs::Sound::ids_sound))]
 fn ids_sound<S: Seen>(u: &S) -> bool
-    ensures { result ≡ ids_sound (S.unit u.now).waiting (S.unit u.now).count }
+    ensures value { result ≡ ids_sound (S.unit u.now).waiting (S.unit u.now).count }
+    ensures places { OnTrue result (length (S.unit u.now).waiting ≡ 8) }
 {
     let n = u.count();
     n <= 8 && u.is_list_clear() && distinct(u, n)
@@ -102,13 +105,6 @@ fn state_sound<S: Seen>(u: &S) -> bool
     }
 }
 
-#[tactic(auto, unfolding(book::specs::Sound::kept_none))]
-fn kept_none<S: Seen>(u: &S) -> bool
-    ensures { result ≡ kept_none (S.unit u.now) }
-{
-    u.octets() == 0 && u.is_kept_clear()
-}
-
 // Whether a message that was read may be the kept one.
 #[tactic(auto, using(crate::proofs::KeptLaws::says_plain, crate::proofs::KeptLaws::says_sure, crate::proofs::KeptLaws::says_note))]
 fn kept_says<S: Seen>(u: &S, frame: &[u8], h: Header, n: usize) -> bool
@@ -118,7 +114,9 @@ fn kept_says<S: Seen>(u: &S, frame: &[u8], h: Header, n: usize) -> bool
     let alone = n == 0 && h.multi_shot;
     match h.confirmation {
         0 => alone && u.count() == 0,
-        1 => alone && u.count() == 1 && u.id(0) == crate::needed_value(frame::two_octets(frame, h.identifier)),
+        1 => alone
+            && u.count() == 1
+            && u.id(0) == crate::needed_value(frame::two_octets(frame, h.identifier)),
         _ => false,
     }
 }
@@ -132,24 +130,25 @@ fn kept_reads<S: Seen>(u: &S, frame: &[u8]) -> bool
     }
 }
 
-#[tactic(auto, unfolding(book::specs::Sound::kept_good))]
-fn kept_good<S: Seen>(u: &S) -> bool
-    ensures { result ≡ kept_good (S.unit u.now) }
-{
-    u.octets() <= 554 && u.is_kept_clear() && kept_reads(u, u.kept())
-}
-
-#[tactic(auto, unfolding(book::specs::Sound::kept_sound))]
+// No frame is kept but in Start-multi.
+#[tactic(auto, unfolding(book::specs::Sound::kept_sound, book::specs::Sound::kept_good, book::specs::Sound::kept_none))]
 fn kept_sound<S: Seen>(u: &S) -> bool
-    ensures { result ≡ kept_sound (S.unit u.now) }
+    ensures value { result ≡ kept_sound (S.unit u.now) }
+    ensures places { OnTrue result (length (S.unit u.now).kept ≡ 554) }
+    ensures octets { OnTrue result ((i : ℕ) → get_or (S.unit u.now).kept i 0 < 256) }
 {
-    if u.state() == 2 { kept_good(u) } else { kept_none(u) }
+    u.is_kept_clear()
+        && match u.state() {
+            2 => u.octets() <= 554 && kept_reads(u, u.kept()),
+            _ => u.octets() == 0,
+        }
 }
 
 // Whether a unit is sound. The cheapest tests come first; one that isn't sound is done with at the first that fails.
-#[tactic(auto, unfolding(book::specs::Sound::sound_of))]
+#[tactic(auto, using(crate::proofs::Sounds::ready), unfolding(book::specs::Sound::sound_of))]
 pub fn sound<S: Seen>(u: &S) -> bool
-    ensures { result ≡ sound_of (S.unit u.now) }
+    ensures value { result ≡ sound_of (S.unit u.now) }
+    ensures ready { OnTrue result (Ready (S.unit u.now)) }
 {
     setup_sound(u) && state_sound(u) && ids_sound(u) && kept_sound(u)
 }
