@@ -9,10 +9,7 @@ pub returns-then-out-lt1024 : goal.returns-then-out-lt1024
 returns-then-out-lt1024 g c = refused_in_place _ (step_small _ (g.H.Seen.unit c.args.u.now) c.args.event.now c.if-out-lt1024.true) refl
 
 pub returns-then-not-sound : goal.returns-then-not-sound
-returns-then-not-sound g c = refused_in_place _ (step_unsound _ (g.H.Seen.unit c.args.u.now) c.args.event.now c.if-out-lt1024.false c.sound.ensures c.if-not-sound.true) refl
-
-pub act-requires-clause-ready : goal.act-requires-clause-ready
-act-requires-clause-ready g c = ?
+returns-then-not-sound g c = refused_in_place _ (step_unsound _ (g.H.Seen.unit c.args.u.now) c.args.event.now c.if-out-lt1024.false c.sound.ensures.value c.if-not-sound.true) refl
 
 pub returns : goal.returns
-returns g c = turned_as (step_does _ (g.H.Seen.unit c.args.u.now) c.args.event.now c.if-out-lt1024.false c.sound.ensures c.if-not-sound.false refl) c.act.ensures
+returns g c = turned_as (step_does _ (g.H.Seen.unit c.args.u.now) c.args.event.now c.if-out-lt1024.false c.sound.ensures.value c.if-not-sound.false refl) c.act.ensures
