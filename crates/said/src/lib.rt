@@ -21,7 +21,7 @@ pub struct Pen {
 
 // What a confirmation that the unit makes itself says beside the unit's name. Here and in Say a confirmation and a result are the octets that the line
 // carries: an enum between would be turned into them at once, and no line would be plainer.
-#[derive(Clone, Copy, PartialEq, Eq)]
+#[derive(Clone, Copy)]
 pub struct Note {
     pub multi_shot: bool,
     pub confirmation: u8,
