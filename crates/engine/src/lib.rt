@@ -3,17 +3,17 @@
 
 ghost use Rattle.image.specs.Answer.{Handled, SetsUp};
 
-use book::Verdict;
+use book::{Refusal, Verdict};
 
 // One event: the lent image becomes that of the unit after it, and its lines stand in the lent buffer.
 pub fn handle(image: &mut [u8], event: &[u8], out: &mut [u8]) -> Verdict
     ensures { Handled image.old event.now out.old result image.new out.new }
 {
     if out.len() < 1024 {
-        return Verdict::Refused(6);
+        return Err(Refusal::NoRoom);
     }
     let Some(image) = image.as_mut_array::<618>() else {
-        return Verdict::Refused(9);
+        return Err(Refusal::Unsound);
     };
     turn::handle(image, event, out)
 }
@@ -23,7 +23,7 @@ pub fn setup(image: &mut [u8], start: u16, end: u16, inactivity: u16, name: &[u8
     ensures { SetsUp start end inactivity name.now image.old result image.new }
 {
     let Some(image) = image.as_mut_array::<618>() else {
-        return Verdict::Refused(9);
+        return Err(Refusal::Unsound);
     };
     turn::setup(image, start, end, inactivity, name)
 }

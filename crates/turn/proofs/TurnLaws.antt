@@ -1,5 +1,5 @@
 -- A turn over a lent unit from a turn by value, and what was read of the unit in a law that speaks of it.
-use Rattle.std.specs.Prelude.{Option}
+use Rattle.std.specs.Prelude.{Option, Some, Result, Err}
 use Prim.Native.Nat.{ℕ, zero, suc, ◌+◌, ◌-◌, ◌<◌, ◌≤◌}
 use mathlib.Core.Path.{◌≡◌, refl, ap, sym, ◌∙◌}
 use mathlib.Core.Bool.{Bool, true, not}
@@ -8,15 +8,13 @@ use native.Mathlib.Omega.{arith}
 use borrow.Author.Tests.{lt-ltb, ne_eqb}
 use Rattle.book.specs.declared.Unit.{Unit as Value}
 use Rattle.book.specs.declared.Turn.{Turn}
-use Rattle.book.specs.declared.Verdict.{Verdict}
-use Rattle.book.specs.declared.Verdict.TheVariants.{Refused}
+use Rattle.book.specs.declared.Done.{Done}
+use Rattle.book.specs.declared.Refusal.{Refusal}
 use Rattle.book.specs.Book.{State, idle, single, multi, ending, assoc, Setup, Outcome, refused, Msg, Reading, on_single, on_multi, on_start, on_reply, on_dat, on_end, on_fin, on_fin_ok, on_abort}
 use Rattle.book.specs.Picture.{setup_of, state_of, ids_in}
 use Rattle.book.specs.Lines.{terms_octets}
 use Rattle.book.specs.Waiting.{place_of}
 use Rattle.book.specs.declared.Terms.{Terms}
-use Rattle.book.specs.declared.Found.{Found}
-use Rattle.book.specs.declared.Found.TheVariants.{Place}
 use Rattle.turn_laws.proofs.DataLaws.{place_below}
 use Rattle.said.specs.declared.Note.{Note}
 use Rattle.said.specs.declared.Say.{Say}
@@ -36,15 +34,15 @@ use lib.ListN.{length, take, drop, get_or, replicate, length-drop}
 use lib.Seq.{take-take, length-take-le}
 use lib.Dec.{eqb}
 
-pub as_turn : {v : Value} {r x : Verdict} → r ≡ x → ◌≡◌ {A = Turn} (record { unit = v; verdict = r }) (record { unit = v; verdict = x })
+pub as_turn : {v : Value} {r x : Result Done Refusal} → r ≡ x → ◌≡◌ {A = Turn} (record { unit = v; verdict = r }) (record { unit = v; verdict = x })
 as_turn {v} e = ap (λ y. record { unit = v; verdict = y }) e
 
-pub as_refused : (u : Value) {n : ℕ} {r : Verdict} → r ≡ Refused n → ◌≡◌ {A = Turn} (record { unit = u; verdict = r }) (turn_of u (refused n))
+pub as_refused : (u : Value) {n : Refusal} {r : Result Done Refusal} → r ≡ Err n → ◌≡◌ {A = Turn} (record { unit = u; verdict = r }) (turn_of u (refused n))
 unfolding turn_of
 as_refused u e = as_turn e
 
 -- a refusal: unit and buffer as they were
-pub refused_in_place : (u : Value) {o : Outcome} {n : ℕ} {before : List ℕ} {r : Verdict} → o ≡ refused n → r ≡ Refused n
+pub refused_in_place : (u : Value) {o : Outcome} {n : Refusal} {before : List ℕ} {r : Result Done Refusal} → o ≡ refused n → r ≡ Err n
     → Turned u o before (record { unit = u; verdict = r }) before
 unfolding turn_of octets_of
 refused_in_place u e q = record { result = rw e (as_turn q); buffer = rw e }
@@ -68,7 +66,7 @@ pub ids_as : (u : Value) (s : Say) (name : List ℕ) {n : ℕ} {m a : List ℕ} 
     → Laid m p (map (answer_line s name) (ids_in u)) a q
 ids_as u s name e l = rw e at l
 
-pub place_counted : {u : Value} (k : Ready u) (id : ℕ) {j : ℕ} {g : Found} → g ≡ place_of id 0 (ids_in u) → g ≡ Place j → j < u.count
+pub place_counted : {u : Value} (k : Ready u) (id : ℕ) {j : ℕ} {g : Option ℕ} → g ≡ place_of id 0 (ids_in u) → g ≡ Some j → j < u.count
 place_counted {u} k id {j} q z =
     let b = place_below id j (ids_in u) (sym q ∙ z) in
     let l = length-take-le u.count u.waiting (omega (arith, k.few, k.eight)) in

@@ -9,7 +9,7 @@ ghost use Rattle.turn.specs.Acts.{Acted};
 
 use crate::held::Held;
 use crate::{ends, lines, moves};
-use book::{Found, Verdict};
+use book::{Refusal, Verdict};
 use frame::{Header, Reading};
 
 // Confirmation 0.
@@ -65,7 +65,7 @@ fn on_note<H: Held>(u: &mut H, frame: &[u8], h: Header, n: usize, out: &mut [u8]
     let reference = state::needed_value(frame::two_octets(frame, i));
     let found = moves::find(u, reference);
     moves::rest(u);
-    let Found::Place(place) = found else {
+    let Some(place) = found else {
         return lines::finished(pen);
     };
     let done = lines::put_confirmed(out, pen, h, frame);
@@ -96,7 +96,7 @@ pub(crate) fn on_data<H: Held>(u: &mut H, frame: &[u8], out: &mut [u8]) -> Verdi
     ensures { Acted (H.unit u.old) (on_dat (setup_of (H.unit u.old)) (reading_in frame.now) (state_of (H.unit u.old))) out.old result (H.unit u.new) out.new }
 {
     if !moves::takes(u, 6) {
-        return Verdict::Refused(1);
+        return Err(Refusal::WrongState);
     }
     let reading = frame::read(frame);
     match reading {

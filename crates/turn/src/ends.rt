@@ -10,7 +10,7 @@ ghost use Rattle.turn.specs.Acts.{Acted};
 
 use crate::held::Held;
 use crate::{lines, moves};
-use book::Verdict;
+use book::{Refusal, Verdict};
 use said::{Pen, Say};
 use state::sound;
 
@@ -63,7 +63,7 @@ pub(crate) fn on_abort<H: Held>(u: &mut H, out: &mut [u8], reason: u8) -> Verdic
     ensures { Acted (H.unit u.old) (on_abort (setup_of (H.unit u.old)) reason (state_of (H.unit u.old))) out.old result (H.unit u.new) out.new }
 {
     if !moves::takes(u, 9) {
-        return Verdict::Refused(1);
+        return Err(Refusal::WrongState);
     }
     let done = put_lost(out, Pen { at: 0, lines: 0 }, u, reason);
     u.to_idle();
@@ -77,7 +77,7 @@ pub(crate) fn on_end<H: Held>(u: &mut H, out: &mut [u8]) -> Verdict
     ensures { Acted (H.unit u.old) (on_end (state_of (H.unit u.old))) out.old result (H.unit u.new) out.new }
 {
     if !moves::takes(u, 2) {
-        return Verdict::Refused(1);
+        return Err(Refusal::WrongState);
     }
     let done = lines::put_one(out, Pen { at: 0, lines: 0 }, 0x33);
     u.at_elapsed(3, 0);
@@ -115,7 +115,7 @@ pub(crate) fn on_end_asked<H: Held>(u: &mut H, out: &mut [u8]) -> Verdict
     ensures { Acted (H.unit u.old) (on_fin (setup_of (H.unit u.old)) (state_of (H.unit u.old))) out.old result (H.unit u.new) out.new }
 {
     if !moves::takes(u, 7) {
-        return Verdict::Refused(1);
+        return Err(Refusal::WrongState);
     }
     let pen = lines::put_two(out, Pen { at: 0, lines: 0 }, 0x34, 0);
     let next = put_uncertain(out, pen, u);
@@ -131,7 +131,7 @@ pub(crate) fn on_end_answered<H: Held>(u: &mut H, out: &mut [u8], accepted: bool
     ensures { Acted (H.unit u.old) (on_fin_ok (setup_of (H.unit u.old)) accepted (state_of (H.unit u.old))) out.old result (H.unit u.new) out.new }
 {
     if !moves::takes(u, 8) {
-        return Verdict::Refused(1);
+        return Err(Refusal::WrongState);
     }
     if accepted {
         let done = put_uncertain(out, Pen { at: 0, lines: 0 }, u);

@@ -8,7 +8,7 @@ ghost use Rattle.book.specs.Ready.{Ready};
 ghost use Rattle.book.specs.Step.{does, step, set_up};
 ghost use Rattle.turn.specs.Acts.{Acted, SetTo};
 
-use book::{Event, Verdict};
+use book::{Done, Event, Refusal, Verdict};
 use held::Held;
 use state::{events, sound};
 
@@ -30,7 +30,7 @@ fn act<H: Held>(u: &mut H, event: &[u8], out: &mut [u8]) -> Verdict
     ensures { Acted (H.unit u.old) (does (setup_of (H.unit u.old)) (event_of event.now) (drop (frame_from (event_of event.now)) event.now) (state_of (H.unit u.old))) out.old result (H.unit u.new) out.new }
 {
     match events::event_of(event) {
-        Event::Malformed => Verdict::Refused(8),
+        Event::Malformed => Err(Refusal::NoEvent),
         Event::Transfer(confirmed, terms) => {
             requests::on_request(u, confirmed, terms, said::after(event, 4), out)
         }
@@ -51,10 +51,10 @@ pub fn handle<H: Held>(u: &mut H, event: &[u8], out: &mut [u8]) -> Verdict
     ensures { Acted (H.unit u.old) (step (length out.old) (H.unit u.old) event.now) out.old result (H.unit u.new) out.new }
 {
     if out.len() < 1024 {
-        return Verdict::Refused(6);
+        return Err(Refusal::NoRoom);
     }
     if !sound::sound(u) {
-        return Verdict::Refused(9);
+        return Err(Refusal::Unsound);
     }
     act(u, event, out)
 }
@@ -65,11 +65,11 @@ pub fn setup<H: Held>(u: &mut H, start: u16, end: u16, inactivity: u16, name: &[
 {
     if !sound::within_limits(start, end, inactivity, name.len()) {
         u.make(0, 0, 0, [0; 32], 0);
-        return Verdict::Refused(7);
+        return Err(Refusal::BadSetup);
     }
     u.make(start, end, inactivity, said::name_of(name), name.len());
-    Verdict::Done {
+    Ok(Done {
         lines: 0,
         octets: 0,
-    }
+    })
 }

@@ -1,6 +1,6 @@
 // Output lines, laid into the lent buffer one after the other. The octets of a head are stored one by one, which the compiler joins into one store; the
 // unit's name, its waiting list and its kept frame are read where they stand, in the image.
-ghost use Rattle.std.specs.Prelude.{◌≡◌, [], ◌∷◌, ◌++◌, map, ◌+◌, ◌*◌, ◌≤◌, ◌<◌, ◌/◌, ◌%◌, eqb, length, take};
+ghost use Rattle.std.specs.Prelude.{◌≡◌, [], ◌∷◌, ◌++◌, map, ◌+◌, ◌*◌, ◌≤◌, ◌<◌, ◌/◌, ◌%◌, eqb, length, take, Ok};
 ghost use Rattle.octets.specs.Choice.{pick};
 ghost use Rattle.octets.specs.Put.{Put};
 ghost use Rattle.frame.specs.Stripping.{bare_to};
@@ -10,19 +10,19 @@ ghost use Rattle.said.specs.Pens.{Laid};
 ghost use Rattle.said.specs.Notes.{note_octets, answer_line};
 ghost use Rattle.said.specs.Saying.{seen_lines};
 
-use book::{Terms, Verdict};
+use book::{Done, Terms, Verdict};
 use frame::{Header, OneOctet};
 use image::seen::Seen;
 use said::{Note, Pen, Say};
 
 // An accepted event: what was laid.
 pub(crate) fn finished(pen: Pen) -> Verdict
-    ensures { result ≡ Verdict.Done pen.lines pen.at }
+    ensures { result ≡ Ok (record { lines = pen.lines; octets = pen.at }) }
 {
-    Verdict::Done {
+    Ok(Done {
         lines: pen.lines,
         octets: pen.at,
-    }
+    })
 }
 
 fn one(out: &mut [u8], at: usize, a: u8) -> usize
@@ -221,7 +221,7 @@ fn put_note(out: &mut [u8], at: usize, note: Note, name: &[u8]) -> usize
     requires room { at + 6 + length name.now ≤ length out.old }
     ensures { Put out.old at (note_octets note name.now) out.new result }
 {
-    let shot = said::bit_of(note.multi_shot);
+    let shot = u8::from(note.multi_shot);
     let message_type = note.message_type;
     let OneOctet::Octet(t) = message_type else {
         let next = pair(out, at, 24 + shot, note.confirmation);

@@ -6,7 +6,6 @@ ghost use Rattle.book.specs.Waiting.{place_of};
 ghost use Rattle.turn_laws.specs.Moves.{rested};
 
 use crate::held::Held;
-use book::Found;
 use image::seen::Seen;
 use state::turns;
 
@@ -27,14 +26,9 @@ pub(crate) fn takes<H: Seen>(u: &H, column: usize) -> bool
 }
 
 // Where an identifier waits.
-pub(crate) fn find<H: Seen>(u: &H, id: u16) -> Found
+pub(crate) fn find<H: Seen>(u: &H, id: u16) -> Option<usize>
     requires { Ready (H.unit u.now) }
     ensures { result ≡ place_of id 0 (take (H.unit u.now).count (H.unit u.now).waiting) }
 {
-    for i in 0..u.count() {
-        if id == u.id(i) {
-            return Found::Place(i);
-        }
-    }
-    Found::Nowhere
+    (0..u.count()).position(|i| id == u.id(i))
 }

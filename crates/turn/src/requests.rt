@@ -10,7 +10,7 @@ ghost use Rattle.turn.specs.Acts.{Acted};
 
 use crate::held::Held;
 use crate::{lines, moves};
-use book::{Found, Terms, Verdict};
+use book::{Refusal, Terms, Verdict};
 use frame::{Header, Reading};
 use said::Pen;
 
@@ -89,12 +89,11 @@ fn on_next_sure<H: Held>(u: &mut H, a: Terms, frame: &[u8], h: Header, out: &mut
 {
     let i = h.identifier;
     let id = state::needed_value(frame::two_octets(frame, i));
-    let found = moves::find(u, id);
-    let Found::Nowhere = found else {
-        return Verdict::Refused(4);
-    };
+    if moves::find(u, id).is_some() {
+        return Err(Refusal::Waits);
+    }
     if 8 <= u.count() {
-        return Verdict::Refused(5);
+        return Err(Refusal::Full);
     }
     let done = lines::put_framed(out, Pen { at: 0, lines: 0 }, 0x32, frame, h.end);
     u.at_elapsed(4, 0);
@@ -103,6 +102,7 @@ fn on_next_sure<H: Held>(u: &mut H, a: Terms, frame: &[u8], h: Header, out: &mut
 }
 
 // A multi-shot request in Associated.
+#[tactic(auto, unfolding(book::specs::Book::same_terms))]
 fn on_next<H: Held>(u: &mut H, a: Terms, frame: &[u8], h: Header, out: &mut [u8]) -> Verdict
     requires ready { Ready (H.unit u.old) }
     requires in_state { (H.unit u.old).state ≡ 4 }
@@ -113,8 +113,8 @@ fn on_next<H: Held>(u: &mut H, a: Terms, frame: &[u8], h: Header, out: &mut [u8]
 {
     let t = said::settle(a);
     let own = u.terms();
-    if !said::alike(t, own) {
-        return Verdict::Refused(3);
+    if t != own {
+        return Err(Refusal::OtherTerms);
     }
     let c = h.confirmation;
     if c == 0 {
@@ -132,7 +132,7 @@ fn on_multi<H: Held>(u: &mut H, a: Terms, frame: &[u8], h: Header, out: &mut [u8
     ensures { Acted (H.unit u.old) (on_multi (bar a (msg_at frame.now h) (state_of (H.unit u.old))) a (msg_at frame.now h) (state_of (H.unit u.old))) out.old result (H.unit u.new) out.new }
 {
     if !moves::takes(u, 1) {
-        return Verdict::Refused(1);
+        return Err(Refusal::WrongState);
     }
     if u.state() == 0 {
         return on_idle_multi(u, a, frame, h, out);
@@ -149,7 +149,7 @@ fn on_single<H: Held>(u: &mut H, a: Terms, frame: &[u8], h: Header, out: &mut [u
     ensures { Acted (H.unit u.old) (on_single a (msg_at frame.now h) (state_of (H.unit u.old))) out.old result (H.unit u.new) out.new }
 {
     if !moves::takes(u, 0) {
-        return Verdict::Refused(1);
+        return Err(Refusal::WrongState);
     }
     on_idle_single(u, a, frame, h, out)
 }
@@ -168,14 +168,14 @@ pub(crate) fn on_request<H: Held>(
 {
     let reading = frame::read(frame);
     let Reading::Whole { header, extensions } = reading else {
-        return Verdict::Refused(2);
+        return Err(Refusal::BadFrame);
     };
     if extensions != 0 {
-        return Verdict::Refused(2);
+        return Err(Refusal::BadFrame);
     }
     let c = header.confirmation;
-    if c != said::bit_of(confirmed) {
-        return Verdict::Refused(2);
+    if c != u8::from(confirmed) {
+        return Err(Refusal::BadFrame);
     }
     if header.multi_shot {
         return on_multi(u, a, frame, header, out);

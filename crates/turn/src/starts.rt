@@ -10,7 +10,7 @@ ghost use Rattle.turn.specs.Acts.{Acted};
 
 use crate::held::Held;
 use crate::{ends, lines, moves};
-use book::{Terms, Verdict};
+use book::{Refusal, Terms, Verdict};
 use frame::{Header, Reading};
 use said::{Pen, Say};
 
@@ -111,7 +111,7 @@ pub(crate) fn on_start<H: Held>(u: &mut H, a: Terms, frame: &[u8], out: &mut [u8
     ensures { Acted (H.unit u.old) (on_start (setup_of (H.unit u.old)) a (or_nothing frame.now) (state_of (H.unit u.old))) out.old result (H.unit u.new) out.new }
 {
     if !moves::takes(u, 4) {
-        return Verdict::Refused(1);
+        return Err(Refusal::WrongState);
     }
     if frame.len() == 0 {
         return on_opened(u, a, out);
@@ -237,7 +237,7 @@ pub(crate) fn on_reply<H: Held>(u: &mut H, accepted: bool, frame: &[u8], out: &m
     ensures { Acted (H.unit u.old) (on_reply (setup_of (H.unit u.old)) accepted (or_nothing frame.now) (state_of (H.unit u.old))) out.old result (H.unit u.new) out.new }
 {
     if !moves::takes(u, 5) {
-        return Verdict::Refused(1);
+        return Err(Refusal::WrongState);
     }
     if u.state() == 2 {
         return on_multi_answer(u, accepted, frame, out);
