@@ -11,6 +11,7 @@ use Rattle.frame.proofs.PlacePartialEq.eq.Reads as place-eq
 use Rattle.frame.proofs.HeaderPartialEq.eq.Reads as header-eq
 use Rattle.frame.proofs.WholePartialEq.eq.Reads as whole-eq
 use Rattle.frame.proofs.RefusalPartialEq.eq.Reads as refusal-eq
+use Rattle.frame.proofs.bit.Reads as bit
 use Rattle.frame.proofs.part.Reads as part
 use Rattle.frame.proofs.sender.Reads as sender
 use Rattle.frame.proofs.user_data.Reads as user_data
@@ -47,6 +48,9 @@ one_whole_eq κs a x y e f p q = p ∙ sym q
 
 pub one_refusal_eq : Leaves refusal-eq.Post (λ κs r e. r)
 one_refusal_eq κs a x y e f p q = p ∙ sym q
+
+pub one_bit : Leaves bit.Post (λ κs r e. r)
+one_bit κs a x y e f p q = p ∙ sym q
 
 pub one_part : Leaves part.Post (λ κs r e. r.now)
 one_part κs a x y e f p q = p ∙ sym q

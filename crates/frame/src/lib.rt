@@ -1,11 +1,11 @@
 // The message frame: its types, and what may be asked of it. Rules: 01, "The message frame".
 #![tactic(auto)]
 
-ghost use Rattle.std.specs.Prelude.{◌≡◌, length};
+ghost use Rattle.std.specs.Prelude.{◌≡◌, ◌<◌, length};
 ghost use Rattle.std.proofs.lemmas.List.Edits.{sets};
 ghost use Rattle.frame.specs.Faults.{fault_number, refusal_number};
 ghost use Rattle.frame.specs.Encoding.{encode};
-ghost use Rattle.frame.specs.Reading.{reading_of};
+ghost use Rattle.frame.specs.Reading.{bit, reading_of};
 ghost use Rattle.frame.specs.Decoding.{one_octet, two_octets, held_at, part_at};
 ghost use Rattle.frame.specs.Writing.{message_of, refusal_of, Wrote};
 ghost use Rattle.frame.specs.Stripping.{bare_to, bare, strip_refusal, edition_one};
@@ -98,6 +98,14 @@ impl From<Refusal> for u8 {
             Refusal::Faulty(f) => u8::from(f),
         }
     }
+}
+
+// Whether the bit of that weight is set in octet 0 of a frame.
+pub fn bit(flags: u8, weight: u8) -> bool
+    requires { 0 < weight }
+    ensures { result ≡ bit flags weight }
+{
+    flags / weight % 2 == 1
 }
 
 // The whole message, or the first fault.

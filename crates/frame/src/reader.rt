@@ -1,24 +1,16 @@
 // The field readers. Each answers the field and the place after it, or the fault.
 // Frame and place stay two arguments, no cursor: one answer of `Result` then holds all that a reader found, for `let else` to take apart.
-ghost use Rattle.std.specs.Prelude.{◌≡◌, ◌<◌, length};
+ghost use Rattle.std.specs.Prelude.{◌≡◌, length};
 ghost use Rattle.frame.specs.Message.{lacks};
-ghost use Rattle.frame.specs.Reading.{bit, opened, fixed_at, sender_at, data_at, extension_at, extensions_from, rest_at, fields_of};
+ghost use Rattle.frame.specs.Reading.{opened, fixed_at, sender_at, data_at, extension_at, extensions_from, rest_at, fields_of};
 
-use crate::{Fault, Header, Place, Whole};
+use crate::{Fault, Header, Place, Whole, bit};
 
 // The most octets that a frame has.
 const LONGEST: usize = 1024;
 
 // What a field reader answers.
 type Step = Result<(Option<Place>, usize), Fault>;
-
-// Whether the bit of that weight is set.
-fn bit(flags: u8, weight: u8) -> bool
-    requires { 0 < weight }
-    ensures { result ≡ bit flags weight }
-{
-    flags / weight % 2 == 1
-}
 
 // Whether a field that the confirmation needs is absent.
 #[tactic(auto, unfolding(crate::specs::Message::lacks))]
