@@ -1,11 +1,13 @@
 -- 01's "Slips to shut out", and the rules that are easiest to get wrong, each as one worked example of the rule book. Closed by computation: a rule
 -- book that slips does not compute to these.
+use Rattle.std.specs.Prelude.{None, Some}
 use Prim.Native.Nat.{ℕ}
 use mathlib.Core.Path.{◌≡◌, refl}
 use mathlib.Core.Bool.{true, false}
-use mathlib.Core.Option.{none, some}
 use mathlib.Core.List.{List, [], ◌∷◌}
 use Rattle.book.specs.declared.Terms.{Terms}
+use Rattle.book.specs.declared.Refusal.{Refusal}
+use Rattle.book.specs.declared.Refusal.TheVariants.{OtherTerms, Waits, Full}
 use Rattle.book.specs.declared.Unit.{Unit as Value}
 use Rattle.book.specs.Book.{Body, Msg, plain, sure, Kind, ok, unknown, Frame, msg, note, good, Out, give, answer, success, uncertain, send, seen, gone, start, dat, cut, State, idle, single, multi, ending, assoc, Setup, Outcome, refused, done, local, ack, on_request, on_dat, on_reply, on_tick}
 use Rattle.book.specs.Book as Book
@@ -25,16 +27,16 @@ abbrev others : Terms
 others = record { class = 2; priority = 4; rer = 1 }
 
 abbrev body : Body
-body = record { maintained = true; type = none; user_data = none }
+body = record { maintained = true; type = None; user_data = None }
 
 abbrev sheet : ℕ → Msg
-sheet i = sure i none none body
+sheet i = sure i None None body
 
 abbrev eight : List ℕ
 eight = 1 ∷ 2 ∷ 3 ∷ 4 ∷ 5 ∷ 6 ∷ 7 ∷ 8 ∷ []
 
 abbrev okay : ℕ → Frame
-okay r = note ok r none (0x41 ∷ []) body
+okay r = note ok r None (0x41 ∷ []) body
 
 -- "Answering the oldest waiting identifier whichever reference came": two load sheets wait, the newer is answered, the older waits on
 pub not_the_oldest : on_dat G1 (good (okay 9) 0) (assoc terms (7 ∷ 9 ∷ []) 5) ≡ done (assoc terms (7 ∷ []) 0) (answer 9 success (okay 9) ∷ [])
@@ -42,7 +44,7 @@ unfolding on_dat Book.noted Book.left_waiting Book.without Book.without_in Book.
 not_the_oldest = refl
 
 -- "Taking a rejected D-START as failure: for single shot it is the normal carrier of the acknowledgement"
-pub rejected_carries : on_reply G1 false (some (good (okay 7) 0)) (single terms (7 ∷ []) 5) ≡ done idle (answer 7 success (okay 7) ∷ [])
+pub rejected_carries : on_reply G1 false (Some (good (okay 7) 0)) (single terms (7 ∷ []) 5) ≡ done idle (answer 7 success (okay 7) ∷ [])
 unfolding on_reply Book.answered_by Book.single_result Book.with_seen Book.result_of
 rejected_carries = refl
 
@@ -59,17 +61,17 @@ seen_given_acknowledged = refl
 
 -- refusal 3 before 4 and 5, 4 before 5; at eight an 02 is refused and an 01 still taken
 pub refused_in_order :
-    (on_request true others (good (msg (sheet 5)) 0) (assoc terms eight 0) ≡ refused 3)
-    × (on_request true terms (good (msg (sheet 5)) 0) (assoc terms eight 0) ≡ refused 4)
-    × (on_request true terms (good (msg (sheet 9)) 0) (assoc terms eight 0) ≡ refused 5)
-    × (on_request false terms (good (msg (plain none none none body)) 0) (assoc terms eight 7)
-    ≡ done (assoc terms eight 0) (send (dat (good (msg (plain none none none body)) 0)) ∷ []))
+    (on_request true others (good (msg (sheet 5)) 0) (assoc terms eight 0) ≡ refused OtherTerms)
+    × (on_request true terms (good (msg (sheet 5)) 0) (assoc terms eight 0) ≡ refused Waits)
+    × (on_request true terms (good (msg (sheet 9)) 0) (assoc terms eight 0) ≡ refused Full)
+    × (on_request false terms (good (msg (plain None None None body)) 0) (assoc terms eight 7)
+    ≡ done (assoc terms eight 0) (send (dat (good (msg (plain None None None body)) 0)) ∷ []))
 unfolding on_request Book.on_vetted Book.vet Book.on_shot Book.body_of Book.on_multi Book.bar Book.bar_confirmed Book.same_terms Book.settled Book.full Book.ids_of
 refused_in_order = (refl, refl, refl, refl)
 
 -- RER 0 counts as low before terms are kept, sent or compared
 pub rer_settled :
-    (on_request true unsettled (good (msg (sheet 5)) 0) idle ≡ done (multi terms (sheet 5) 0) (send (start terms none) ∷ []))
+    (on_request true unsettled (good (msg (sheet 5)) 0) idle ≡ done (multi terms (sheet 5) 0) (send (start terms None) ∷ []))
     × (on_request true unsettled (good (msg (sheet 5)) 0) (assoc terms [] 0) ≡ done (assoc terms (5 ∷ []) 0) (send (dat (good (msg (sheet 5)) 0)) ∷ []))
 unfolding on_request Book.on_vetted Book.vet Book.on_shot Book.body_of Book.on_multi Book.bar Book.bar_confirmed Book.same_terms Book.settled Book.full Book.ids_of
 rer_settled = (refl, refl)
@@ -81,6 +83,6 @@ unfolding on_tick Book.fall Book.unsure
 falls_in_order = refl
 
 -- "Every refusal returns its number, the unit unchanged"
-pub refusal_keeps : (u : Value) (n : ℕ) → (turn_of u (refused n)).unit ≡ u
+pub refusal_keeps : (u : Value) (r : Refusal) → (turn_of u (refused r)).unit ≡ u
 unfolding turn_of
-refusal_keeps u n = refl
+refusal_keeps u r = refl

@@ -1,6 +1,5 @@
 -- Output lines as octets (01, "Events, lines and the listing"): "An event or output line is a kind octet and a body."
-use Rattle.std.specs.Prelude.{ℕ, ◌/◌, ◌%◌, List, [], ◌∷◌, ◌++◌, map, Bool, true, false, length}
-use Rattle.std.proofs.Math.Option.{Option, none, some}
+use Rattle.std.specs.Prelude.{ℕ, ◌/◌, ◌%◌, List, [], ◌∷◌, ◌++◌, map, Bool, true, false, length, None, Option, Some}
 use Rattle.book.specs.declared.Terms.{Terms}
 use Rattle.book.specs.Book.{Msg, plain, sure, Reading, bad, good, Line, start, reply, dat, fin, fin_ok, cut, lost, Result, success, failed, uncertain, Out, give, answer, ended, gone, seen, send}
 use Rattle.book.specs.View.{msg_octets, frame_octets}
@@ -30,8 +29,8 @@ read_octets (bad n) = []
 read_octets (good f n) = frame_octets f
 
 abbrev pub held_octets : Option Reading → List ℕ
-held_octets none = []
-held_octets (some r) = read_octets r
+held_octets None = []
+held_octets (Some r) = read_octets r
 
 -- "30 D-START request (terms, RER never 0; frame or nothing); 31 D-START response (result; frame or nothing); 32 D-DATA request (frame); 33 D-END
 -- request; 34 D-END response (result); 35 D-ABORT request (reason)"

@@ -1,6 +1,5 @@
 -- The unit's struct as the picture of a state of the rule book, and back. "A field that the state doesn't use is 0 or empty."
-use Rattle.std.specs.Prelude.{ℕ, zero, suc, ◌-◌, List, [], ◌++◌, true, length, take, replicate}
-use Rattle.std.proofs.Math.Option.{none}
+use Rattle.std.specs.Prelude.{ℕ, zero, suc, ◌-◌, List, [], ◌++◌, true, length, take, replicate, None}
 use Rattle.book.specs.declared.Terms.{Terms}
 use Rattle.book.specs.declared.Unit.{Unit as Value}
 use Rattle.book.specs.Book.{Msg, plain, msg, note, Reading, bad, good, State, idle, single, multi, ending, assoc, Setup, ids_of}
@@ -48,7 +47,7 @@ ids_in u = take u.count u.waiting
 
 -- the message of a frame; of what is none, any (a sound unit keeps none such)
 abbrev pub no_msg : Msg
-no_msg = plain none none none (record { maintained = true; type = none; user_data = none })
+no_msg = plain None None None (record { maintained = true; type = None; user_data = None })
 
 abbrev pub msg_in : Reading → Msg
 msg_in (good (msg m) n) = m

@@ -1,6 +1,5 @@
 -- Octets and the rule book's messages: what a frame's octets are read as, and the octets of a frame that is written.
-use Rattle.std.specs.Prelude.{ℕ, zero, suc, List}
-use Rattle.std.proofs.Math.Option.{Option, none, some}
+use Rattle.std.specs.Prelude.{ℕ, zero, suc, List, None, Option, Some}
 use Rattle.frame.specs.declared.Header.{Header}
 use Rattle.frame.specs.Message.{Message}
 use Rattle.frame.specs.Encoding.{encode}
@@ -11,8 +10,8 @@ use Rattle.book.specs.Book.{Body, Msg, plain, sure, Kind, ok, not_ok, unknown, F
 
 -- the value of a field that the confirmation needs: the reader has seen to it that it is there
 abbrev pub needed : Option ℕ → ℕ
-needed none = 0
-needed (some n) = n
+needed None = 0
+needed (Some n) = n
 
 abbrev pub body_in : Message → Body
 body_in m = record { maintained = m.multi_shot; type = m.message_type; user_data = m.user_data }
@@ -68,12 +67,12 @@ kind_for (suc (suc (suc (suc n)))) = unknown
 
 unfoldable pub msg_message : Msg → Message
 msg_message (plain i r q b) = message_with 0 i r q b
-msg_message (sure i r q b) = message_with 1 (some i) r q b
+msg_message (sure i r q b) = message_with 1 (Some i) r q b
 
 unfoldable pub frame_message : Frame → Message
 unfolding msg_message
 frame_message (msg m) = msg_message m
-frame_message (note k r i q b) = message_with (kind_number k) i (some r) (some q) b
+frame_message (note k r i q b) = message_with (kind_number k) i (Some r) (Some q) b
 
 -- the edition 1 frame
 unfoldable pub msg_octets : Msg → List ℕ

@@ -1,5 +1,6 @@
 -- WHAT A BLOCK SHOWS IS WHAT WAS READ: each field with its place and length or absent, the place after the fields, and the number of extension fields.
 -- Closed by where the fields of a frame stand (frame, proofs/Places): no number is cut, and place 0 is no field's.
+use Rattle.std.specs.Prelude.{Option, Ok}
 use Prim.Native.Nat.{ℕ, ◌+◌, ◌*◌, ◌/◌, ◌%◌, ◌≤◌, ◌<◌}
 use mathlib.Core.Path.{◌≡◌, refl, ap, sym, ◌∙◌}
 use mathlib.Core.List.{List, [], ◌∷◌, ◌++◌}
@@ -9,9 +10,9 @@ use lib.ListN.{length, get_or}
 use lib.Seq.{get_or-drop, drop_at}
 use Rattle.frame.specs.Encoding.{weight}
 use Rattle.frame.specs.Reading.{octet, reading_of}
-use Rattle.frame.specs.declared.Field.{Field}
+use Rattle.frame.specs.declared.Place.{Place}
 use Rattle.frame.specs.declared.Header.{Header}
-use Rattle.frame.specs.declared.Reading.TheVariants.{Whole}
+use Rattle.frame.specs.declared.Whole.{Whole}
 use Rattle.frame.proofs.Inversion.{known}
 use Rattle.frame.proofs.Places.{Stands, absent, there, placed, brief}
 use Rattle.image.specs.Image.{two}
@@ -43,7 +44,7 @@ field_behind a b k i e =
 pair_back : (n : ℕ) → n ≤ 65535 → 256 * (n / 256 % 256) + n % 256 ≡ n
 pair_back n h = omega arith
 
-field_front : {s : List ℕ} {f : Field} (b : List ℕ) → length s ≤ 1024 → Stands s f → field_in (field_octets f ++ b) 0 ≡ f
+field_front : {s : List ℕ} {f : Option Place} (b : List ℕ) → length s ≤ 1024 → Stands s f → field_in (field_octets f ++ b) 0 ≡ f
 unfolding field_in field_octets
 field_front b h absent = refl
 field_front b h (there start len low within) =
@@ -54,7 +55,13 @@ field_front b h (there start len low within) =
 
 -- ---- the block
 
-module _ (s : List ℕ) (small : (i : ℕ) → octet s i < 256) (h : Header) (n : ℕ) (e : reading_of s ≡ Whole h n) where
+module _ (s : List ℕ) (small : (i : ℕ) → octet s i < 256) (v : Whole) (e : reading_of s ≡ Ok v) where
+  abbrev h : Header
+  h = v.header
+
+  abbrev n : ℕ
+  n = v.extensions
+
   abbrev t₁ : List ℕ
   t₁ = field_octets h.message_type
 
@@ -92,35 +99,35 @@ module _ (s : List ℕ) (small : (i : ℕ) → octet s i < 256) (h : Header) (n 
   r₁ = t₁ ++ r₂
 
   short : length s ≤ 1024
-  short = brief s h n e
+  short = brief s v e
 
   pub type_back : field_in (block_of h n) 2 ≡ h.message_type
   unfolding block_of
-  type_back = field_behind head r₁ 2 0 refl ∙ field_front r₂ short (placed s h n e).type
+  type_back = field_behind head r₁ 2 0 refl ∙ field_front r₂ short (placed s v e).type
 
   pub identifier_back : field_in (block_of h n) 6 ≡ h.identifier
   unfolding block_of
-  identifier_back = field_behind head r₁ 2 4 refl ∙ field_behind t₁ r₂ 4 0 (field_long _) ∙ field_front r₃ short (placed s h n e).identifier
+  identifier_back = field_behind head r₁ 2 4 refl ∙ field_behind t₁ r₂ 4 0 (field_long _) ∙ field_front r₃ short (placed s v e).identifier
 
   pub reference_back : field_in (block_of h n) 10 ≡ h.reference
   unfolding block_of
   reference_back =
       field_behind head r₁ 2 8 refl ∙ field_behind t₁ r₂ 4 4 (field_long _) ∙ field_behind t₂ r₃ 4 0 (field_long _)
-      ∙ field_front r₄ short (placed s h n e).reference
+      ∙ field_front r₄ short (placed s v e).reference
 
   pub sender_back : field_in (block_of h n) 14 ≡ h.sender
   unfolding block_of
   sender_back =
       field_behind head r₁ 2 12 refl ∙ field_behind t₁ r₂ 4 8 (field_long _) ∙ field_behind t₂ r₃ 4 4 (field_long _)
-      ∙ field_behind t₃ r₄ 4 0 (field_long _) ∙ field_front r₅ short (placed s h n e).sender
+      ∙ field_behind t₃ r₄ 4 0 (field_long _) ∙ field_front r₅ short (placed s v e).sender
 
   pub data_back : field_in (block_of h n) 18 ≡ h.user_data
   unfolding block_of
   data_back =
       field_behind head r₁ 2 16 refl ∙ field_behind t₁ r₂ 4 12 (field_long _) ∙ field_behind t₂ r₃ 4 8 (field_long _)
-      ∙ field_behind t₃ r₄ 4 4 (field_long _) ∙ field_behind t₄ r₅ 4 0 (field_long _) ∙ field_front r₆ short (placed s h n e).user_data
+      ∙ field_behind t₃ r₄ 4 4 (field_long _) ∙ field_behind t₄ r₅ 4 0 (field_long _) ∙ field_front r₆ short (placed s v e).user_data
 
-  further : (f : Field) (r : List ℕ) (i j : ℕ) → 4 + i ≡ j → two (field_octets f ++ r) j ≡ two r i
+  further : (f : Option Place) (r : List ℕ) (i j : ℕ) → 4 + i ≡ j → two (field_octets f ++ r) j ≡ two r i
   further f r i j q = ap (two (field_octets f ++ r)) (sym q) ∙ two_behind (field_octets f) r 4 i (field_long f)
 
   rest_back : (i : ℕ) → two (head ++ r₁) (22 + i) ≡ two r₆ i
@@ -133,8 +140,8 @@ module _ (s : List ℕ) (small : (i : ℕ) → octet s i < 256) (h : Header) (n 
 
   pub end_back : two (block_of h n) 22 ≡ h.end
   unfolding block_of
-  end_back = rest_back 0 ∙ pair_back h.end (omega (arith, (known s small h n e).short))
+  end_back = rest_back 0 ∙ pair_back h.end (omega (arith, (known s small v e).short))
 
   pub extensions_back : two (block_of h n) 24 ≡ n
   unfolding block_of
-  extensions_back = rest_back 2 ∙ pair_back n (omega (arith, (known s small h n e).few))
+  extensions_back = rest_back 2 ∙ pair_back n (omega (arith, (known s small v e).few))

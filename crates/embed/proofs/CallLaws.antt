@@ -1,10 +1,11 @@
--- Laws of the calls: the number of an answer, and each way out of setup and of an event.
-use Prim.Native.Nat.{ℕ, ◌+◌, ◌*◌, ◌<◌, ◌≤◌}
-use mathlib.Core.Path.{◌≡◌, refl, ap, sym, ◌∙◌}
+-- Laws of the calls: what setup and an event answer has room in a number.
+use Prim.Native.Nat.{ℕ, ◌<◌, ◌≤◌}
+use Rattle.std.specs.Prelude.{Result, Ok, Err}
+use mathlib.Core.Path.{◌≡◌, refl, sym}
 use mathlib.Core.Bool.{Bool, true, false}
 use mathlib.Core.List.{List}
 use native.Mathlib.Omega.{arith}
-use borrow.Author.Tests.{le-ltb, ltb-false, eq-eqb, ne_eqb, eqb-true}
+use borrow.Author.Tests.{le-ltb, ltb-false, eqb-true}
 use lib.Dec.{ltb, eqb}
 use lib.ListN.{length, get_or}
 use Rattle.octets.specs.Choice.{pick}
@@ -14,36 +15,19 @@ use Rattle.book.specs.Sound.{sound_of, within_limits}
 use Rattle.book.specs.Step.{step, turn_of, set_up}
 use Rattle.book.specs.declared.Unit.{Unit as Value}
 use Rattle.book.specs.declared.Turn.{Turn}
-use Rattle.book.specs.declared.Verdict.{Verdict}
-use Rattle.book.specs.declared.Verdict.TheVariants.{Done, Refused}
+use Rattle.book.specs.declared.Done.{Done}
+use Rattle.book.specs.declared.Refusal.{Refusal}
+use Rattle.book.specs.declared.Refusal.TheVariants.{NoRoom, BadSetup, Unsound}
 use Rattle.room_laws.proofs.Room.{room}
 use Rattle.image.specs.Image.{unit_of}
 use Rattle.image.specs.Answer.{outcome_on, Handled}
 use Rattle.image.specs.Answer as Image
 use Rattle.image_laws.proofs.GoesOn.{wide, eight, long, kept_small, set_verdict}
-use Rattle.embed.specs.Answer.{number_of, counted, Answers, SetsUp}
-
--- ---- the number of an answer
-
-pub taken_fits : {v : Verdict} {n k : ℕ} → v ≡ Done n k → counted v < 4294967040 → 65536 * n + k < 4294967040
-unfolding counted
-taken_fits e h = rw e at h
-
-pub number_taken : {v : Verdict} {n k : ℕ} → v ≡ Done n k → 65536 * n + k ≡ number_of v
-unfolding number_of
-number_taken e = rw e
-
-pub number_refused : {v : Verdict} {n : ℕ} → v ≡ Refused n → 4294967040 + n ≡ number_of v
-unfolding number_of
-number_refused e = rw e
-
-pub refusal_counts : {v : Verdict} (n : ℕ) → v ≡ Refused n → counted v < 4294967040
-unfolding counted
-refusal_counts n e = rw e (omega arith)
+use Rattle.embed.specs.Answer.{counted}
 
 -- ---- an event
 
-unsound : (rm : ℕ) (u : Value) (ev : List ℕ) → 1024 ≤ rm → sound_of u ≡ false → step rm u ev ≡ refused 9
+unsound : (rm : ℕ) (u : Value) (ev : List ℕ) → 1024 ≤ rm → sound_of u ≡ false → step rm u ev ≡ refused Unsound
 unfolding step
 unsound rm u ev h e = rw (le-ltb rm 1024 h, e)
 
@@ -59,14 +43,14 @@ step_counts rm u ev t h wide eight long kept small e = rw e (go (sound_of u) ref
     go false p (done st os) q = let z : ◌≡◌ {A = ℕ} 0 1 = let w = unsound rm u ev h (sym p) in cc in absurd (omega arith)
 
 -- what the engine answers to any event has room in a number
-pub handled_counts : (image ev out : List ℕ) {v : Verdict} {after out' : List ℕ} → ((i : ℕ) → octet image i < 256) → ((i : ℕ) → octet ev i < 256)
+pub handled_counts : (image ev out : List ℕ) {v : Result Done Refusal} {after out' : List ℕ} → ((i : ℕ) → octet image i < 256) → ((i : ℕ) → octet ev i < 256)
     → Handled image ev out v after out' → counted v < 4294967040
 unfolding outcome_on turn_of counted
 handled_counts image ev out {v} small smallEvent h =
     rw h.verdict (go (ltb (length out) 1024) refl (eqb (length image) 618) refl)
   where
     go : (a : Bool) → a ≡ ltb (length out) 1024 → (b : Bool) → b ≡ eqb (length image) 618
-        → counted (turn_of (unit_of image) (pick a (refused 6) (pick b (step (length out) (unit_of image) ev) (refused 9)))).verdict < 4294967040
+        → counted (turn_of (unit_of image) (pick a (refused NoRoom) (pick b (step (length out) (unit_of image) ev) (refused Unsound)))).verdict < 4294967040
     go true p b q = omega arith
     go false p false q = omega arith
     go false p true q =
@@ -74,12 +58,8 @@ handled_counts image ev out {v} small smallEvent h =
         step_counts (length out) (unit_of image) ev (turn_of (unit_of image) (step (length out) (unit_of image) ev)) (ltb-false (length out) 1024 (sym p))
         (wide image e small) (eight image e small) (long image e small) (kept_small image e small) smallEvent refl
 
-pub event_answers : (image ev out : List ℕ) {v : Verdict} {r : ℕ} {after out' : List ℕ} → Handled image ev out v after out' → r ≡ number_of v
-    → Answers image ev out r after out'
-event_answers image ev out h e = record { number = e ∙ ap number_of h.verdict; image = h.image; buffer = h.buffer }
-
 -- an image of 617 octets is none, whatever it holds
-pub short_image : (room : ℕ) (image ev : List ℕ) → 1024 ≤ room → length image ≡ 617 → outcome_on room image ev ≡ refused 9
+pub short_image : (room : ℕ) (image ev : List ℕ) → 1024 ≤ room → length image ≡ 617 → outcome_on room image ev ≡ refused Unsound
 unfolding outcome_on
 short_image room image ev h e = rw (le-ltb room 1024 h, e)
 
@@ -89,23 +69,10 @@ verdict_counts : (a b c : ℕ) (name : List ℕ) → counted (set_up a b c name)
 unfolding set_up counted
 verdict_counts a b c name = go (within_limits a b c (length name)) _ _
   where
-    go : (w : Bool) (x y : Value) → counted (pick {A = Turn} w (record { unit = x; verdict = Done 0 0 }) (record { unit = y; verdict = Refused 7 })).verdict < 4294967040
+    go : (w : Bool) (x y : Value) → counted (pick {A = Turn} w (record { unit = x; verdict = Ok (record { lines = 0; octets = 0 }) }) (record { unit = y; verdict = Err BadSetup })).verdict < 4294967040
     go true x y = omega arith
     go false x y = omega arith
 
-module _ (a b c : ℕ) (name image : List ℕ) where
-  pub setup_no_image : (length image ≡ 618 → ⊥) → {v : Verdict} {r : ℕ} → v ≡ Refused 6 → r ≡ number_of v → SetsUp a b c name image r image
-  setup_no_image n p e = record {
-    number = rw (ne_eqb (length image) 618 n) (rw p at e);
-    image = rw (ne_eqb (length image) 618 n);
-  }
-
-  module _ (n : length image ≡ 618) {v : Verdict} {after : List ℕ} (h : Image.SetsUp a b c name image v after) where
-    pub setup_counts : counted v < 4294967040
-    setup_counts = rw (set_verdict a b c name image n h) (verdict_counts a b c name)
-
-    pub setup_answers : {r : ℕ} → r ≡ number_of v → SetsUp a b c name image r after
-    setup_answers p = record {
-      number = rw (eq-eqb (length image) 618 n) (p ∙ ap number_of (set_verdict a b c name image n h));
-      image = h.image;
-    }
+pub setup_counts : (a b c : ℕ) (name image : List ℕ) → length image ≡ 618 → {v : Result Done Refusal} {after : List ℕ} → Image.SetsUp a b c name image v after
+    → counted v < 4294967040
+setup_counts a b c name image n h = rw (set_verdict a b c name image n h) (verdict_counts a b c name)

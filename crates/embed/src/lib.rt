@@ -2,24 +2,31 @@
 // as an image of 618 octets.
 #![tactic(auto)]
 
-ghost use Rattle.std.specs.Prelude.{◌≡◌, ◌<◌};
-ghost use Rattle.frame.specs.Writing.{message_of};
-ghost use Rattle.embed.specs.Answer.{number_of, counted, Answers, SetsUp};
-ghost use Rattle.embed.specs.Fields.{parts_in, Reads, Writes};
+ghost use Rattle.std.specs.Prelude.{◌≡◌, ◌+◌, ◌<◌};
+ghost use Rattle.embed.specs.Answer.{refused, number_of, counted, Answers, SetsUp};
+ghost use Rattle.embed.specs.Fields.{message_in, Reads, Writes};
 
-use book::Verdict;
-use frame::Reading;
+use book::{Refusal, Verdict};
+use frame::{Fault, Parts, bit};
 
 mod fields;
 
-// An answer as one number.
-fn number(v: Verdict) -> u32
-    requires { counted v < 4294967040 }
-    ensures { result ≡ number_of v }
+// A refusal as one number.
+fn refused(n: u8) -> u32
+    ensures { result ≡ refused n }
 {
-    match v {
-        Verdict::Done { lines, octets } => 65536 * (lines as u32) + (octets as u32),
-        Verdict::Refused(n) => 0xffffff00 + (n as u32),
+    0xffffff00 + u32::from(n)
+}
+
+// An answer as one number.
+#[tactic(auto, unfolding(crate::specs::Answer::counted, crate::specs::Answer::number_of))]
+fn number(verdict: Verdict) -> u32
+    requires { counted verdict < 4294967040 }
+    ensures { result ≡ number_of verdict }
+{
+    match verdict {
+        Ok(done) => 65536 * (done.lines as u32) + (done.octets as u32),
+        Err(refusal) => refused(u8::from(refusal)),
     }
 }
 
@@ -35,10 +42,9 @@ pub extern "C" fn stelquorum_setup(
     ensures { SetsUp start end inactivity name.now image.old result image.new }
 {
     if image.len() != 618 {
-        return number(Verdict::Refused(6));
+        return refused(u8::from(Refusal::NoRoom));
     }
-    let verdict = engine::setup(image, start, end, inactivity, name);
-    number(verdict)
+    number(engine::setup(image, start, end, inactivity, name))
 }
 
 // One event: the image of the unit after it, and its lines in the lent buffer.
@@ -46,24 +52,24 @@ pub extern "C" fn stelquorum_setup(
 pub extern "C" fn stelquorum_event(image: &mut [u8], event: &[u8], out: &mut [u8]) -> u32
     ensures { Answers image.old event.now out.old result image.new out.new }
 {
-    let verdict = engine::handle(image, event, out);
-    number(verdict)
+    number(engine::handle(image, event, out))
 }
 
 // Reads a frame: where its fields stand, in the lent block, or its fault.
+#[tactic(auto, unfolding(crate::specs::Fields::read_number, crate::specs::Fields::block_after))]
 #[unsafe(no_mangle)]
 pub extern "C" fn stelquorum_read(frame: &[u8], block: &mut [u8]) -> u32
     ensures { Reads frame.now block.old result block.new }
 {
     if block.len() < 26 {
-        return number(Verdict::Refused(6));
+        return refused(u8::from(Refusal::NoRoom));
     }
     match frame::read(frame) {
-        Reading::Faulty(f) => number(Verdict::Refused(frame::fault_number(f))),
-        Reading::Whole { header, extensions } => {
-            fields::put_block(block, header, extensions);
+        Ok(whole) => {
+            fields::put_block(block, whole);
             0
         }
+        Err(fault) => refused(u8::from(fault)),
     }
 }
 
@@ -79,15 +85,26 @@ pub extern "C" fn stelquorum_write(
     data: &[u8],
     buffer: &mut [u8],
 ) -> u32
-    ensures { Writes flags (message_of (parts_in flags confirmation message_type identifier reference) sender.now «data».now) buffer.old result buffer.new }
+    ensures { Writes flags (message_in flags confirmation message_type identifier reference sender.now «data».now) buffer.old result buffer.new }
 {
     if buffer.len() < 1024 {
-        return number(Verdict::Refused(6));
+        return refused(u8::from(Refusal::NoRoom));
     }
-    if fields::has_strays(flags) {
-        return number(Verdict::Refused(13));
+    // Bits that edition 1 sets in no frame.
+    if bit(flags, 128) || bit(flags, 2) {
+        return refused(u8::from(Fault::BadOctet));
     }
-    let parts = fields::parts_in(flags, confirmation, message_type, identifier, reference);
-    let written = frame::write(parts, sender, data, buffer);
-    number(fields::verdict_of(written))
+    let parts = Parts {
+        multi_shot: bit(flags, 1),
+        confirmation,
+        message_type: bit(flags, 64).then_some(message_type),
+        identifier: bit(flags, 32).then_some(identifier),
+        reference: bit(flags, 16).then_some(reference),
+        sender: bit(flags, 8).then_some(sender),
+        user_data: bit(flags, 4).then_some(data),
+    };
+    match frame::write(parts, buffer) {
+        Ok(octets) => octets as u32,
+        Err(refusal) => refused(u8::from(refusal)),
+    }
 }

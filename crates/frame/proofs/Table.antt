@@ -1,7 +1,7 @@
 -- THE TABLE OF 01 ("A session and its edges"), its frames: one statement. Closed by computation.
+use Rattle.std.specs.Prelude.{None, Some}
 use Prim.Native.Nat.{ℕ}
 use mathlib.Core.Bool.{false}
-use mathlib.Core.Option.{none, some}
 use mathlib.Core.List.{List, [], ◌∷◌, map}
 use mathlib.Core.Path.{◌≡◌, refl}
 use Rattle.frame.specs.Message.{Message, lacks}
@@ -13,22 +13,22 @@ abbrev empty : Message
 empty = record {
   multi_shot = false;
   confirmation = 0;
-  message_type = none;
-  message_identifier = none;
-  message_reference = none;
-  sender = none;
-  user_data = none;
+  message_type = None;
+  message_identifier = None;
+  message_reference = None;
+  sender = None;
+  user_data = None;
 }
 
 abbrev empty_data : Message
 empty_data = record {
   multi_shot = false;
   confirmation = 0;
-  message_type = none;
-  message_identifier = none;
-  message_reference = none;
-  sender = none;
-  user_data = some [];
+  message_type = None;
+  message_identifier = None;
+  message_reference = None;
+  sender = None;
+  user_data = Some [];
 }
 
 -- frame `0000` valid, `0005` fault 13, `00` and the empty frame 12, `0001` 15, `000000` 16, `04000000` valid with empty data, `8000` 12,

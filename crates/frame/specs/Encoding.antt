@@ -1,6 +1,5 @@
 -- A message as octets (01, "The message frame").
-use Rattle.std.specs.Prelude.{ℕ, ◌+◌, ◌/◌, ◌%◌, List, [], ◌∷◌, ◌++◌, Bool, true, false, length, ltb}
-use Rattle.std.proofs.Math.Option.{Option, none, some}
+use Rattle.std.specs.Prelude.{ℕ, ◌+◌, ◌/◌, ◌%◌, List, [], ◌∷◌, ◌++◌, Bool, true, false, length, ltb, None, Option, Some}
 use Rattle.octets.specs.Choice.{both}
 use Rattle.frame.specs.Message.{Message, Extension, present}
 
@@ -23,23 +22,23 @@ first_octet follow m =
 
 -- "type, 1 octet"
 abbrev pub type_octets : Option ℕ → List ℕ
-type_octets none = []
-type_octets (some x) = x ∷ []
+type_octets None = []
+type_octets (Some x) = x ∷ []
 
 -- "identifier, 2; reference, 2": "Numbers are big-endian"
 abbrev pub number_octets : Option ℕ → List ℕ
-number_octets none = []
-number_octets (some n) = n / 256 ∷ n % 256 ∷ []
+number_octets None = []
+number_octets (Some n) = n / 256 ∷ n % 256 ∷ []
 
 -- "sender, a length octet 1..32 and its octets"
 abbrev pub sender_octets : Option (List ℕ) → List ℕ
-sender_octets none = []
-sender_octets (some s) = length s ∷ s
+sender_octets None = []
+sender_octets (Some s) = length s ∷ s
 
 -- "userData, a 2-octet length 0..512 and its octets"
 abbrev pub data_octets : Option (List ℕ) → List ℕ
-data_octets none = []
-data_octets (some s) = length s / 256 ∷ length s % 256 ∷ s
+data_octets None = []
+data_octets (Some s) = length s / 256 ∷ length s % 256 ∷ s
 
 -- "one or more extension fields fill the rest": "tag 1..255, length 0..255, octets"
 abbrev pub extension_octets : List Extension → List ℕ

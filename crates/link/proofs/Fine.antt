@@ -1,8 +1,8 @@
 -- What a unit gives out can be read: every frame in its lines is one that 01 allows, and of edition 1. Closed by cases on the rule and the state.
+use Rattle.std.specs.Prelude.{None, Option, Some}
 use Prim.Native.Nat.{ℕ, zero, suc, ◌<◌, ◌≤◌}
 use mathlib.Core.Path.{◌≡◌, refl, sym}
 use mathlib.Core.Bool.{Bool, true, false}
-use mathlib.Core.Option.{Option, none, some}
 use mathlib.Core.List.{List, [], ◌∷◌}
 use native.Mathlib.Omega.{arith}
 use borrow.Author.Tests.{ltb-true, leb-true, le-ltb, ne_eqb, eqb-false}
@@ -13,6 +13,7 @@ use Rattle.frame.specs.Message.{lacks}
 use Rattle.frame.specs.Writing.{Allowed, fault_in, wrong_sender, wrong_data}
 use Rattle.book.specs.declared.Terms.{Terms}
 use Rattle.book.specs.Sound.{within_limits}
+use Rattle.book.specs.declared.Refusal.{Refusal}
 use Rattle.book.specs.Book.{Body, Msg, plain, sure, Kind, ok, not_ok, unknown, Frame, msg, note, Reading, bad, good, Line, start, reply, dat, fin, fin_ok, cut, Result, Out, give, answer, ended, gone, seen, send, State, idle, single, multi, ending, assoc, Setup, Outcome, refused, done, settled, ids_of, body_of, without, ack, ack_body, local, unsure, refuse_all, with_seen, fall, quiet_fall, vet, bar, on_single, on_multi, on_shot, on_vetted, on_request, on_end, on_tick, greet, first_contact, on_start, answered_by, begun, on_reply, noted, on_dat, on_fin, on_fin_ok, on_abort}
 use Rattle.book.specs.View.{frame_message}
 use Rattle.sound_laws.proofs.Within.{Rated, Within, in_multi, Limited, Keepable, both_right}
@@ -27,8 +28,8 @@ pub data FineRead : Reading → Type 0 where
   fine : {f : Frame} → AllowedFrame f → FineRead (good f 0)
 
 pub data FineHeld : Option Reading → Type 0 where
-  nothing : FineHeld none
-  held : {r : Reading} → FineRead r → FineHeld (some r)
+  nothing : FineHeld None
+  held : {r : Reading} → FineRead r → FineHeld (Some r)
 
 pub data FineLine : Line → Type 0 where
   starts : {a : Terms} {h : Option Reading} → Rated a → FineHeld h → FineLine (start a h)
@@ -51,7 +52,7 @@ pub data AllFine : List Out → Type 0 where
   also : {o : Out} {os : List Out} → FineOut o → AllFine os → AllFine (o ∷ os)
 
 pub data FineOutcome : Outcome → Type 0 where
-  barred : {n : ℕ} → FineOutcome (refused n)
+  barred : {n : Refusal} → FineOutcome (refused n)
   fine_done : {st : State} {os : List Out} → AllFine os → FineOutcome (done st os)
 
 -- a frame that was read is allowed; a fault is none
@@ -60,8 +61,8 @@ pub data Heard : Reading → Type 0 where
   whole : {f : Frame} {n : ℕ} → AllowedFrame f → Heard (good f n)
 
 pub data HeardHeld : Option Reading → Type 0 where
-  silent : HeardHeld none
-  spoken : {r : Reading} → Heard r → HeardHeld (some r)
+  silent : HeardHeld None
+  spoken : {r : Reading} → Heard r → HeardHeld (Some r)
 
 one : {st : State} {o : Out} → FineOut o → FineOutcome (done st (o ∷ []))
 one f = fine_done (also f none_left)
@@ -84,11 +85,11 @@ named s l =
     }
 
 module _ (s : Setup) (n : Named s) where
-  sender_fine : wrong_sender (some s.name) ≡ false
+  sender_fine : wrong_sender (Some s.name) ≡ false
   unfolding wrong_sender
   sender_fine = rw (ne_eqb (length s.name) 0 (λ e. omega (arith, n.some_name)), le-ltb 32 (length s.name) n.short)
 
-  note_allowed : (k : Kind) (i : ℕ) (m : Bool) (t : Option ℕ) → AllowedFrame (note k i none s.name (record { maintained = m; type = t; user_data = none }))
+  note_allowed : (k : Kind) (i : ℕ) (m : Bool) (t : Option ℕ) → AllowedFrame (note k i None s.name (record { maintained = m; type = t; user_data = None }))
   unfolding frame_message fault_in lacks wrong_data
   note_allowed ok i m t = rw sender_fine
   note_allowed not_ok i m t = rw sender_fine
@@ -96,7 +97,7 @@ module _ (s : Setup) (n : Named s) where
 
   pub local_allowed : (m : Bool) (k : Kind) (i : ℕ) → AllowedFrame (local s m k i)
   unfolding local
-  local_allowed m k i = note_allowed k i m none
+  local_allowed m k i = note_allowed k i m None
 
   pub ack_allowed : (i : ℕ) (b : Body) → AllowedFrame (ack s i b)
   unfolding ack ack_body
@@ -147,14 +148,14 @@ module _ (a : Terms) (rated : Rated (settled a)) (m : Msg) (al : AllowedFrame (m
   single_fine (ending T w t) = barred
   single_fine (assoc T w t) = barred
 
-  multi_fine : (b : Option ℕ) (st : State) → FineOutcome (on_multi b a m st)
+  multi_fine : (b : Option Refusal) (st : State) → FineOutcome (on_multi b a m st)
   unfolding on_multi
   multi_fine b idle = one (sends (starts rated nothing))
   multi_fine b (single T w t) = barred
   multi_fine b (multi T k t) = barred
   multi_fine b (ending T w t) = barred
-  multi_fine (some n) (assoc T w t) = barred
-  multi_fine none (assoc T w t) = one (sends (dats (fine al)))
+  multi_fine (Some n) (assoc T w t) = barred
+  multi_fine None (assoc T w t) = one (sends (dats (fine al)))
 
   shot_fine : (b : Bool) (st : State) → FineOutcome (on_shot b a m st)
   unfolding on_shot
@@ -202,10 +203,10 @@ module _ (s : Setup) (n : Named s) where
 
   contact_fine : (a : Terms) (h : Option Reading) → HeardHeld h → FineOutcome (first_contact s a h)
   unfolding first_contact
-  contact_fine a none h = one (sends (replies nothing))
-  contact_fine a (some (bad k)) h = one (sends cuts)
-  contact_fine a (some (good (msg m) e)) (spoken (whole al)) = greet_fine (body_of m).maintained a e m al
-  contact_fine a (some (good (note k r i q b) e)) h = fine_done (seen_fine e (also (sends cuts) none_left))
+  contact_fine a None h = one (sends (replies nothing))
+  contact_fine a (Some (bad k)) h = one (sends cuts)
+  contact_fine a (Some (good (msg m) e)) (spoken (whole al)) = greet_fine (body_of m).maintained a e m al
+  contact_fine a (Some (good (note k r i q b) e)) h = fine_done (seen_fine e (also (sends cuts) none_left))
 
   pub start_fine : (a : Terms) (h : Option Reading) (st : State) → HeardHeld h → FineOutcome (on_start s a h st)
   unfolding on_start
@@ -220,14 +221,14 @@ module _ (s : Setup) (n : Named s) where
   answered_fine : (w : List ℕ) (h : Option Reading) → HeardHeld h → AllFine (answered_by s w h)
   unfolding answered_by
   answered_fine [] f h = none_left
-  answered_fine (i ∷ w) none h = also (answers (local_allowed s n false unknown i)) none_left
-  answered_fine (i ∷ w) (some (bad k)) h = also (answers (local_allowed s n false unknown i)) none_left
-  answered_fine (i ∷ w) (some (good f e)) (spoken (whole al)) = seen_fine e (also (answers al) none_left)
+  answered_fine (i ∷ w) None h = also (answers (local_allowed s n false unknown i)) none_left
+  answered_fine (i ∷ w) (Some (bad k)) h = also (answers (local_allowed s n false unknown i)) none_left
+  answered_fine (i ∷ w) (Some (good f e)) (spoken (whole al)) = seen_fine e (also (answers al) none_left)
 
   begun_fine : (a : Terms) (k : Msg) → AllowedFrame (msg k) → (h : Option Reading) → FineOutcome (begun s a k h)
   unfolding begun
-  begun_fine a k al none = one (sends (dats (fine al)))
-  begun_fine a k al (some f) = fall_fine s n true (ids_of k) 10
+  begun_fine a k al None = one (sends (dats (fine al)))
+  begun_fine a k al (Some f) = fall_fine s n true (ids_of k) 10
 
   kept_allowed : (k : Msg) → Keepable k → AllowedFrame (msg k)
   unfolding frame_message
@@ -247,8 +248,8 @@ module _ (s : Setup) (n : Named s) where
 
   noted_fine : (e : ℕ) (k : Kind) (r : ℕ) (f : Frame) → AllowedFrame f → (o : Option (List ℕ)) → AllFine (noted e k r f o)
   unfolding noted
-  noted_fine e k r f al none = seen_fine e none_left
-  noted_fine e k r f al (some v) = seen_fine e (also (answers al) none_left)
+  noted_fine e k r f al None = seen_fine e none_left
+  noted_fine e k r f al (Some v) = seen_fine e (also (answers al) none_left)
 
   pub dat_fine : (r : Reading) (st : State) → Heard r → FineOutcome (on_dat s r st)
   unfolding on_dat

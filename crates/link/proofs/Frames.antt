@@ -1,8 +1,8 @@
 -- A frame on its way: with any extension fields that a later edition adds it is read as the same message. Closed by the laws of the frame.
+use Rattle.std.specs.Prelude.{Option, Some}
 use Prim.Native.Nat.{ℕ, ◌+◌}
 use mathlib.Core.Path.{◌≡◌, refl, ap, sym, ◌∙◌}
 use mathlib.Core.Bool.{Bool, true, false}
-use mathlib.Core.Option.{Option, some}
 use mathlib.Core.List.{List, [], ◌∷◌, ◌++◌, append-nil}
 use native.Mathlib.Omega.{arith}
 use borrow.Author.Tests.{leb-true}
@@ -124,7 +124,7 @@ unfolding frame_octets
 opens_frame xs f = opens xs (frame_message f)
 
 -- it is a frame, and not nothing
-pub spoken : (xs : List Extension) (f : Frame) → or_nothing (extended xs (frame_octets f)) ≡ some (reading_in (extended xs (frame_octets f)))
+pub spoken : (xs : List Extension) (f : Frame) → or_nothing (extended xs (frame_octets f)) ≡ Some (reading_in (extended xs (frame_octets f)))
 spoken xs f = let o = opens_frame xs f in rw o.is
 
 -- whether it is a message
@@ -142,11 +142,11 @@ note_is_none xs unknown r i q b = let o = opens_frame xs (note unknown r i q b) 
 -- ---- what it names
 
 -- the edition 1 fields of a message's frame
-pub fields_of_lem : (xs : List Extension) (m : Msg) → AllowedFrame (msg m) → fields_in (extended xs (frame_octets (msg m))) ≡ some (msg_message m)
+pub fields_of_lem : (xs : List Extension) (m : Msg) → AllowedFrame (msg m) → fields_in (extended xs (frame_octets (msg m))) ≡ Some (msg_message m)
 unfolding fields_in frame_message
 fields_of_lem xs m a = rw (decodes xs (msg m) a)
 
-pub fields_bare : (m : Msg) → AllowedFrame (msg m) → fields_in (frame_octets (msg m)) ≡ some (msg_message m)
+pub fields_bare : (m : Msg) → AllowedFrame (msg m) → fields_in (frame_octets (msg m)) ≡ Some (msg_message m)
 unfolding fields_in frame_message
 fields_bare m a = rw (decodes_bare (msg m) a)
 

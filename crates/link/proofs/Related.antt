@@ -1,9 +1,9 @@
 -- What is written down of a dialogue in octets, and what the rule book's model writes down of it in messages: the same. Closed by cases on the
 -- output line.
+use Rattle.std.specs.Prelude.{Option, Some}
 use Prim.Native.Nat.{ℕ}
 use mathlib.Core.Path.{◌≡◌, refl, ap, sym, ◌∙◌}
 use mathlib.Core.Bool.{false}
-use mathlib.Core.Option.{Option, some}
 use mathlib.Core.List.{List, [], ◌∷◌, ◌++◌, map, append-nil, append_assoc}
 use lib.Dec.{eqb}
 use lib.ListN.{drop}
@@ -25,7 +25,7 @@ use Rattle.link.proofs.Frames.{none_extended, message_is, note_is_none, fields_o
 -- ---- a log
 
 abbrev pub fields_of : Msg → Option Message
-fields_of m = some (msg_message m)
+fields_of m = Some (msg_message m)
 
 pub record RelLog (A : Log) (a : M.Log) : Type 0 where
   pub handed : map fields_in A.handed ≡ map fields_of a.handed

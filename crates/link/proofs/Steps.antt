@@ -1,8 +1,8 @@
 -- Each step of the pair in octets is a step of the rule book's pair, or none. Closed by what a unit that is a picture says to an event (Pictures).
+use Rattle.std.specs.Prelude.{None, Option, Some}
 use Prim.Native.Nat.{ℕ, zero, suc, ◌+◌, ◌<◌, ◌≤◌}
 use mathlib.Core.Path.{◌≡◌, refl, ap, sym, subst, fun_ext, ◌∙◌}
 use mathlib.Core.Bool.{Bool, true, false}
-use mathlib.Core.Option.{Option, none, some}
 use mathlib.Core.List.{List, [], ◌∷◌}
 use native.Mathlib.Omega.{arith}
 use borrow.Author.Tests.{ltb-true, leb-true}
@@ -15,6 +15,8 @@ use Rattle.frame.specs.Reading.{octet}
 use Rattle.book.specs.declared.Terms.{Terms}
 use Rattle.book.specs.declared.Event.{Event}
 use Rattle.book.specs.declared.Event.TheVariants.{Malformed, Transfer, End as Ending, Tick}
+use Rattle.book.specs.declared.Refusal.TheVariants.{BadFrame, NoEvent}
+use Rattle.book.specs.declared.Refusal.{Refusal}
 use Rattle.book.specs.Book.{Msg, plain, sure, msg, note, Reading, bad, good, Line, start, reply, dat, fin, fin_ok, cut, lost, State, idle, single, multi, ending, assoc, Setup, Outcome, refused, ids_of, vet, late, on_vetted, on_request, on_end, on_tick}
 use Rattle.book.specs.View.{reading_in, frame_octets}
 use Rattle.book.specs.Picture.{picture}
@@ -206,7 +208,7 @@ unfolding M.silent
 silent_heard A a r = r
 
 -- a refused request changes nothing
-ask_refused : (xs : List Extension) (new : List ℕ) (b c : Bool) (n : ℕ) (W : World) → ask_with xs new b c (refused n) W ≡ W
+ask_refused : (xs : List Extension) (new : List ℕ) (b c : Bool) (n : Refusal) (W : World) → ask_with xs new b c (refused n) W ≡ W
 unfolding act act_there
 ask_refused xs new true c n W = refl
 ask_refused xs new false true n W = refl
@@ -223,12 +225,12 @@ heard_of : (f : List ℕ) → ((i : ℕ) → octet f i < 256) → (r : Reading) 
 heard_of f h (bad n) e = faulty
 heard_of f h (good g n) e = whole (read_allowed f g n h e)
 
-request_none : (c : Bool) (a : Terms) (r : Reading) (st : State) → vet c r ≡ none → on_request c a r st ≡ refused 2
+request_none : (c : Bool) (a : Terms) (r : Reading) (st : State) → vet c r ≡ None → on_request c a r st ≡ refused BadFrame
 unfolding on_request on_vetted
 request_none c a r st e = rw e
 
 -- a confirmed transfer's identifier
-asked_plain : (r : Reading) (m : Msg) → vet false r ≡ some m → ids_of m ≡ []
+asked_plain : (r : Reading) (m : Msg) → vet false r ≡ Some m → ids_of m ≡ []
 unfolding vet ids_of
 asked_plain (bad n) m e = let z : ◌≡◌ {A = ℕ} 0 1 = cc in absurd (omega arith)
 asked_plain (good g (suc n)) m e = let z : ◌≡◌ {A = ℕ} 0 1 = cc in absurd (omega arith)
@@ -236,7 +238,7 @@ asked_plain (good (note k r i q b) zero) m e = let z : ◌≡◌ {A = ℕ} 0 1 =
 asked_plain (good (msg (sure i r q b)) zero) m e = let z : ◌≡◌ {A = ℕ} 0 1 = cc in absurd (omega arith)
 asked_plain (good (msg (plain i r q b)) zero) m e = let z : plain i r q b ≡ m = cc in rw (← z)
 
-asked_sure : (f : List ℕ) → ((i : ℕ) → octet f i < 256) → (r : Reading) → reading_in f ≡ r → (m : Msg) → vet true r ≡ some m → identifier f ≡ ids_of m
+asked_sure : (f : List ℕ) → ((i : ℕ) → octet f i < 256) → (r : Reading) → reading_in f ≡ r → (m : Msg) → vet true r ≡ Some m → identifier f ≡ ids_of m
 unfolding vet
 asked_sure f h (bad n) q m e = let z : ◌≡◌ {A = ℕ} 0 1 = cc in absurd (omega arith)
 asked_sure f h (good g (suc n)) q m e = let z : ◌≡◌ {A = ℕ} 0 1 = cc in absurd (omega arith)
@@ -250,12 +252,12 @@ module _ (xs : List Extension) (ev : List ℕ) (isSmall : (i : ℕ) → octet ev
   frame_small : (i : ℕ) → octet (drop 4 ev) i < 256
   frame_small i = rw (get_or-drop 4 ev i 0) (isSmall (4 + i))
 
-  asked_ids : (c : Bool) → kind_of ev ≡ pick c 2 1 → (m : Msg) → vet c (reading_in (drop 4 ev)) ≡ some m → asks_for ev ≡ ids_of m
+  asked_ids : (c : Bool) → kind_of ev ≡ pick c 2 1 → (m : Msg) → vet c (reading_in (drop 4 ev)) ≡ Some m → asks_for ev ≡ ids_of m
   unfolding asks_for
   asked_ids false k m e = rw k (sym (asked_plain (reading_in (drop 4 ev)) m e))
   asked_ids true k m e = rw k (asked_sure (drop 4 ev) frame_small (reading_in (drop 4 ev)) refl m e)
 
-  asked_same : (c : Bool) → kind_of ev ≡ pick c 2 1 → (m : Msg) → vet c (reading_in (drop 4 ev)) ≡ some m → asks_for ev ≡ M.asked_ids (vet c (reading_in (drop 4 ev)))
+  asked_same : (c : Bool) → kind_of ev ≡ pick c 2 1 → (m : Msg) → vet c (reading_in (drop 4 ev)) ≡ Some m → asks_for ev ≡ M.asked_ids (vet c (reading_in (drop 4 ev)))
   unfolding M.asked_ids
   asked_same c k m e = asked_ids c k m e ∙ sym (ap M.asked_ids e)
 
@@ -283,18 +285,18 @@ module _ (xs : List Extension) (ev : List ℕ) (isSmall : (i : ℕ) → octet ev
       w : M.World
       w = M.world (M.at s st d h f acc ans) b p q next
 
-      refused_2 : vet c (reading_in (drop 4 ev)) ≡ none → on_request c a (reading_in (drop 4 ev)) st ≡ refused 2
+      refused_2 : vet c (reading_in (drop 4 ev)) ≡ None → on_request c a (reading_in (drop 4 ev)) st ≡ refused BadFrame
       refused_2 z = request_none c a (reading_in (drop 4 ev)) st z
 
-      asking : (m : Msg) → vet c (reading_in (drop 4 ev)) ≡ some m
+      asking : (m : Msg) → vet c (reading_in (drop 4 ev)) ≡ Some m
           → RelWorld (ask_with xs (asks_for ev) (M.busy st) (M.start_comes q) (on_request c a (reading_in (drop 4 ev)) st) W) (M.do_near (M.request c (count xs) a (reading_in (drop 4 ev))) w)
       asking m z = subst (λ n. RelWorld (ask_with xs (asks_for ev) (M.busy st) (M.start_comes q) (on_request c a (reading_in (drop 4 ev)) st) W)
           (M.ask_with (count xs) n (M.busy st) (M.start_comes q) (on_request c a (reading_in (drop 4 ev)) st) w)) (asked_same c k m z) (rel_ask xs (asks_for ev) (M.busy st) (M.start_comes q) (on_request c a (reading_in (drop 4 ev)) st) (request_known c a r s i st y) (near i y g t u v))
 
       go : (o : Option Msg) → vet c (reading_in (drop 4 ev)) ≡ o
           → Follows (ask_with xs (asks_for ev) (M.busy st) (M.start_comes q) (on_request c a (reading_in (drop 4 ev)) st) W) w
-      go none z = stays (rw (refused_2 z, ask_refused xs (asks_for ev) (M.busy st) (M.start_comes q) 2 W) (of_near (near i y g t u v)))
-      go (some m) z = goes_on (M.request c (count xs) a (reading_in (drop 4 ev))) (asking m z)
+      go None z = stays (rw (refused_2 z, ask_refused xs (asks_for ev) (M.busy st) (M.start_comes q) BadFrame W) (of_near (near i y g t u v)))
+      go (Some m) z = goes_on (M.request c (count xs) a (reading_in (drop 4 ev))) (asking m z)
 
 -- ---- 03, 04, and what is no event
 
@@ -332,7 +334,7 @@ module _ (xs : List Extension) (ev : List ℕ) {s : Setup} {st : State} where
   rel_nonsense : event_of ev ≡ Malformed → {W : World} {w : M.World} → Near s st W w → Follows (ask_near xs ev W) w
   unfolding ask_near does act
   rel_nonsense e (near {d} {k = h} {F} {f} {acc} {ans} {B} {b} {O} {I} {p} {i = q} {next} i y g t u v) =
-      rw (step_picture s i st y ev, e, ask_refused xs (asks_for ev) (busy (picture s st)) (start_comes I) 8 (world (at (picture s st) d h F acc ans) B O I next))
+      rw (step_picture s i st y ev, e, ask_refused xs (asks_for ev) (busy (picture s st)) (start_comes I) NoEvent (world (at (picture s st) d h F acc ans) B O I next))
       (stays (rel_same (leb (kind_of ev) 2) (of_near (near i y g t u v))))
     where
       rel_same : (b : Bool) {W : World} {w : M.World} → RelWorld W w → RelWorld (pick b W W) w

@@ -1,9 +1,9 @@
 -- A line on its way: the octets that an end will hear say to its unit what the rule book's line says. Closed by reading the event back, by cases on
 -- the line.
+use Rattle.std.specs.Prelude.{None, Option, Some}
 use Prim.Native.Nat.{ℕ, suc}
 use mathlib.Core.Path.{◌≡◌, refl, ap, ◌∙◌}
 use mathlib.Core.Bool.{Bool, true, false}
-use mathlib.Core.Option.{Option, none, some}
 use mathlib.Core.List.{List, [], ◌∷◌}
 use native.Mathlib.Omega.{arith}
 use borrow.Author.Tests.{ne_eqb, le-ltb, le-leb}
@@ -111,8 +111,8 @@ wire_reply false H h e k = record { kind = refl; says = λ s st. rw (reply_event
 
 -- ---- a line that a unit sends, with any extension fields
 
-held_reads : (xs : List Extension) (f : Frame) → AllowedFrame f → or_nothing (extended xs (frame_octets f)) ≡ some (good f (count xs f))
-held_reads xs f al = Frames.spoken xs f ∙ ap some (reads xs f al)
+held_reads : (xs : List Extension) (f : Frame) → AllowedFrame f → or_nothing (extended xs (frame_octets f)) ≡ Some (good f (count xs f))
+held_reads xs f al = Frames.spoken xs f ∙ ap Some (reads xs f al)
 
 abbrev pub is_cut : Line → Bool
 is_cut (start a f) = false
@@ -125,11 +125,11 @@ is_cut lost = false
 
 pub wire_sent : (xs : List Extension) {l : Line} → FineLine l → is_cut l ≡ false → Wire (arriving (handed_over xs (line_of (send l)))) (M.extended (count xs) l)
 unfolding handed_over M.extended M.with_fields
-wire_sent xs (starts {a} r nothing) e = rw (none_extended xs) (wire_start a [] none r refl silent)
+wire_sent xs (starts {a} r nothing) e = rw (none_extended xs) (wire_start a [] None r refl silent)
 wire_sent xs (starts {a} r (held (fine {f} al))) e =
-    wire_start a (extended xs (frame_octets f)) (some (good f (count xs f))) r (held_reads xs f al) (spoken (whole al))
-wire_sent xs (replies {b} nothing) e = rw (none_extended xs) (wire_reply b [] none refl silent)
-wire_sent xs (replies {b} (held (fine {f} al))) e = wire_reply b (extended xs (frame_octets f)) (some (good f (count xs f))) (held_reads xs f al) (spoken (whole al))
+    wire_start a (extended xs (frame_octets f)) (Some (good f (count xs f))) r (held_reads xs f al) (spoken (whole al))
+wire_sent xs (replies {b} nothing) e = rw (none_extended xs) (wire_reply b [] None refl silent)
+wire_sent xs (replies {b} (held (fine {f} al))) e = wire_reply b (extended xs (frame_octets f)) (Some (good f (count xs f))) (held_reads xs f al) (spoken (whole al))
 wire_sent xs (dats (fine {f} al)) e = wire_dat (extended xs (frame_octets f)) (good f (count xs f)) (reads xs f al) (whole al)
 wire_sent xs fins e = wire_fin
 wire_sent xs (fin_oks {b}) e = wire_fin_ok b

@@ -1,7 +1,6 @@
 -- TWO UNITS AND A LINK (01, "Link rules of demand 3"), in octets: units of crate `unit` at their octet-level step, lines on their way, and what is
 -- written down of each dialogue.
-use Rattle.std.specs.Prelude.{ℕ, suc, List, [], ◌∷◌, ◌++◌, map, Bool, true, false, not, ltb, leb, eqb, drop, get_or}
-use Rattle.std.proofs.Math.Option.{Option, none, some}
+use Rattle.std.specs.Prelude.{ℕ, suc, List, [], ◌∷◌, ◌++◌, map, Bool, true, false, not, ltb, leb, eqb, drop, get_or, None, Option, Some}
 use Rattle.octets.specs.Choice.{pick, both, either}
 use Rattle.frame.specs.Message.{Message, Extension}
 use Rattle.frame.specs.Decoding.{Decoded, valid, fault, decode}
@@ -73,16 +72,16 @@ note_nothing l = l
 -- ---- a frame's edition 1 fields, and identifiers
 
 abbrev pub message_in : Decoded → Option Message
-message_in (valid m n) = some m
-message_in (fault n) = none
+message_in (valid m n) = Some m
+message_in (fault n) = None
 
 -- "equal in every edition 1 field": the fields of a frame, whatever extension fields follow
 unfoldable pub fields_in : List ℕ → Option Message
 fields_in f = message_in (decode f)
 
 abbrev pub listed : Option ℕ → List ℕ
-listed none = []
-listed (some n) = n ∷ []
+listed None = []
+listed (Some n) = n ∷ []
 
 abbrev pub confirmed_in : Decoded → List ℕ
 confirmed_in (valid m n) = pick (eqb m.confirmation 1) (listed m.message_identifier) []

@@ -1,9 +1,9 @@
 -- WORKED RUNS of the pair: the promises of demand 3 are about something, and each link rule shows in a run. Closed by computation: a link that
 -- breaks the rule does not compute to these.
+use Rattle.std.specs.Prelude.{None, Some}
 use Prim.Native.Nat.{ℕ}
 use mathlib.Core.Path.{◌≡◌, refl}
 use mathlib.Core.Bool.{Bool, true, false}
-use mathlib.Core.Option.{none, some}
 use mathlib.Core.List.{List, [], ◌∷◌, ◌++◌}
 use Rattle.book.specs.declared.Terms.{Terms}
 use Rattle.book.specs.Book.{Body, Msg, plain, sure, msg, good, start, reply, dat, fin, cut, lost, success, give, answer, seen, send, State, idle, single, multi, ending, assoc, Setup, done, ack}
@@ -24,17 +24,17 @@ abbrev terms : Terms
 terms = record { class = 2; priority = 3; rer = 1 }
 
 abbrev body : (maintained : Bool) → Body
-body k = record { maintained = k; type = none; user_data = some (0x4f ∷ 0x4b ∷ []) }
+body k = record { maintained = k; type = None; user_data = Some (0x4f ∷ 0x4b ∷ []) }
 
 -- a load sheet to be confirmed, in a dialogue that is kept; a remark there that isn't to be confirmed; a single-shot report to be confirmed
 abbrev sheet : (id : ℕ) → Msg
-sheet i = sure i none none (body true)
+sheet i = sure i None None (body true)
 
 abbrev remark : Msg
-remark = plain none none none (body true)
+remark = plain None None None (body true)
 
 abbrev report : (id : ℕ) → Msg
-report i = sure i none none (body false)
+report i = sure i None None (body false)
 
 abbrev ask_02 : (fields : ℕ) → Msg → Act
 ask_02 x m = request true (λ f. x) terms (good (msg m) 0)
@@ -105,7 +105,7 @@ pub record Examples : Type 0 where
   -- They travel: the far unit reads 2 of them in the report and says so by line 25, the near unit 3 in the confirmation.
   pub fields_seen_far :
       answer_to_next (swap (after ((near, ask_02 2 (report 7)) ∷ [])))
-      ≡ done idle (seen 2 ∷ give terms (report 7) ∷ send (reply false (some (good (ack A9 7 (body false)) 0))) ∷ [])
+      ≡ done idle (seen 2 ∷ give terms (report 7) ∷ send (reply false (Some (good (ack A9 7 (body false)) 0))) ∷ [])
   pub fields_seen_near :
       answer_to_next (after ((near, ask_02 2 (report 7)) ∷ (far, hears 3) ∷ []))
       ≡ done idle (seen 3 ∷ answer 7 success (ack A9 7 (body false)) ∷ [])
@@ -153,7 +153,7 @@ pub record Examples : Type 0 where
       ≡ shown
       (party (multi terms (sheet 8) 0) (record { handed = sheet 7 ∷ []; given = []; okays = []; fate = broken }) (7 ∷ 8 ∷ []) (7 ∷ []))
       (party (assoc terms (9 ∷ 10 ∷ []) 0) (record { handed = sheet 9 ∷ sheet 10 ∷ []; given = []; okays = []; fate = going }) (9 ∷ 10 ∷ []) [])
-      ((1, cut 2) ∷ (2, start terms none) ∷ []) []
+      ((1, cut 2) ∷ (2, start terms None) ∷ []) []
   -- The far end hears both, and is in the second dialogue.
   pub timer_next :
       look 2 (after (timed_out ++ ((far, hears 0) ∷ (far, hears 0) ∷ (near, hears 0) ∷ (far, hears 0) ∷ [])))
@@ -167,13 +167,13 @@ pub record Examples : Type 0 where
       ≡ shown
       (party (single terms (7 ∷ []) 0) (record { handed = report 7 ∷ []; given = []; okays = []; fate = broken }) (7 ∷ []) [])
       (party (multi terms (sheet 9) 0) (record { handed = []; given = report 7 ∷ []; okays = []; fate = going }) (9 ∷ []) [])
-      [] ((1, lost) ∷ (2, start terms none) ∷ [])
+      [] ((1, lost) ∷ (2, start terms None) ∷ [])
   pub later_taken :
       look 2 (after (called_back ++ ((near, hears 0) ∷ (near, hears 0) ∷ [])))
       ≡ shown
       (party (assoc terms [] 0) (record { handed = []; given = []; okays = []; fate = going }) (7 ∷ []) (7 ∷ []))
       (party (multi terms (sheet 9) 0) (record { handed = []; given = []; okays = []; fate = going }) (9 ∷ []) [])
-      ((2, reply true none) ∷ []) []
+      ((2, reply true None) ∷ []) []
   -- Starts that would cross are no step of a run.
   pub no_crossing : after ((near, ask_02 0 (sheet 7)) ∷ (far, ask_02 0 (sheet 9)) ∷ []) ≡ after ((near, ask_02 0 (sheet 7)) ∷ [])
 

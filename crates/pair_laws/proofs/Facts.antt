@@ -1,8 +1,8 @@
 -- Small facts of the model: which log and which lines a step touches, data lines on the way, output lines that touch neither log nor link. Closed by
 -- induction on lists, and by the test of two equal numbers.
+use Rattle.std.specs.Prelude.{None, Some}
 use mathlib.Core.Path.{◌≡◌, refl, sym, ◌∙◌, ap}
 use mathlib.Core.Bool.{Bool, true, false}
-use mathlib.Core.Option.{none, some}
 use mathlib.Core.List.{List, [], ◌∷◌, ◌++◌, append_assoc}
 use Prim.Native.Nat.{ℕ, zero, suc}
 use borrow.Author.Tests.{eq-eqb, eqb-true}
@@ -29,7 +29,7 @@ pub update_other : (f : ℕ → Log) (d : ℕ) (l : Log) (n : ℕ) → (n ≡ d 
 unfolding update
 update_other f d l n h = rw (eqb_no n d h)
 
-pub without_first : (r : ℕ) (w : List ℕ) → without r (r ∷ w) ≡ some w
+pub without_first : (r : ℕ) (w : List ℕ) → without r (r ∷ w) ≡ Some w
 unfolding without without_in
 without_first r w = rw (eqb_refl r)
 
@@ -40,7 +40,7 @@ pub data Sent : Type 0 where
 
 unfoldable pub wire : Sent → Reading
 wire (mes m x) = good (msg m) x
-wire (confirm r x) = good (note ok r none x.0 x.1) x.2
+wire (confirm r x) = good (note ok r None x.0 x.1) x.2
 
 -- The queue of a dialogue's data lines, and what follows.
 unfoldable pub dats : ℕ → List Sent → Queue → Queue

@@ -1,8 +1,8 @@
 -- ONE DIRECTION OF A DIALOGUE, as lists: what one end handed over, what the other's user was given, the successes told to the first, what it still
 -- waits for, the frames on the way (`q`) and on the way back (`back`), and the identifiers given to the second user that its unit did not
 -- acknowledge (`un`). Closed by the laws of `++`.
+use Rattle.std.specs.Prelude.{Option}
 use mathlib.Core.Path.{◌≡◌, refl, sym, ◌∙◌, ap}
-use mathlib.Core.Option.{Option}
 use mathlib.Core.List.{List, [], ◌∷◌, ◌++◌, append_assoc, append-nil}
 use Prim.Native.Nat.{ℕ}
 use Rattle.book.specs.Book.{Body, Msg, plain, sure, ids_of}

@@ -1,7 +1,7 @@
 -- THE INVARIANT OF A RUN: which states, queues and logs go together. Definitions alone; nothing is to be closed.
+use Rattle.std.specs.Prelude.{None, Option, Some}
 use mathlib.Core.Path.{◌≡◌}
 use mathlib.Core.Bool.{Bool, true, false}
-use mathlib.Core.Option.{Option, none, some}
 use mathlib.Core.List.{List, [], ◌∷◌, ◌++◌}
 use Prim.Native.Nat.{ℕ, ◌≤◌, ◌<◌}
 use Rattle.book.specs.Book.{Body, ok, Reading, good, body_of, Msg, plain, sure, msg, note, Line, start, reply, fin, fin_ok, cut, lost, State, idle, single, multi, ending, assoc, Setup, ids_of, waiting_of}
@@ -79,9 +79,9 @@ pub record Severed (a b : Log) : Type 0 where
 
 -- A single-shot message was given, and its reply is on the way.
 pub data Reply : Msg → Option Reading → Type 0 where
-  reply_plain : {i ir : Option ℕ} {iq : Option (List ℕ)} {b : Body} → Reply (plain i ir iq b) none
+  reply_plain : {i ir : Option ℕ} {iq : Option (List ℕ)} {b : Body} → Reply (plain i ir iq b) None
   reply_sure : {i : ℕ} {ir : Option ℕ} {iq : Option (List ℕ)} {o : List ℕ} {b c : Body} {x : ℕ} →
-      Reply (sure i ir iq b) (some (good (note ok i none o c) x))
+      Reply (sure i ir iq b) (Some (good (note ok i None o c) x))
 
 unfoldable pub given_log : Msg → Log
 given_log m = record { handed = []; given = m ∷ []; okays = []; fate = going }
@@ -106,9 +106,9 @@ pub data Behind (d : ℕ) (a b : Log) : State → Bool → Queue → Type 0 wher
 pub data Ahead (d : ℕ) (a b : Log) (e next : ℕ) : State → Bool → Queue → Queue → Type 0 where
   resting : {h : Bool} → d < next → Ahead d a b e next idle h [] []
   calling_single : {T o : Terms} {m : Msg} {x : ℕ} {t : ℕ} → (body_of m).maintained ≡ false → a ≡ called_log m → b ≡ blank → (d ≡ e → ⊥) → d < next →
-      Ahead d a b e next (single T (ids_of m) t) false ((d, start o (some (good (msg m) x))) ∷ []) []
+      Ahead d a b e next (single T (ids_of m) t) false ((d, start o (Some (good (msg m) x))) ∷ []) []
   calling_multi : {T o : Terms} {k : Msg} {t : ℕ} → a ≡ blank → b ≡ blank → (d ≡ e → ⊥) → d < next →
-      Ahead d a b e next (multi T k t) false ((d, start o none) ∷ []) []
+      Ahead d a b e next (multi T k t) false ((d, start o None) ∷ []) []
   stranded_single : {T : Terms} {w : List ℕ} {t : ℕ} {l : Line} → Cut l → Severed a b → (d ≡ e → ⊥) → d < next →
       Ahead d a b e next (single T w t) true [] ((d, l) ∷ [])
   stranded_multi : {T : Terms} {k : Msg} {t : ℕ} {l : Line} → Cut l → Severed a b → (d ≡ e → ⊥) → d < next →
@@ -137,9 +137,9 @@ pub data Inv : World → Type 0 where
       {wb : List ℕ} {eb : Bool} {qb : List Sent} {unb : List ℕ} →
       Up v wb eb → Un eb unb → Talk (f d) (g d) [] wb false eb [] qb [] unb →
       Books f g d next → Owes acc ans (ids_of k) → Owes acc' ans' wb →
-      Inv (world (at s (multi T k τ) d false f acc ans) (at t v d false g acc' ans') [] ((d, reply true none) ∷ dats d qb (tail d eb)) next)
+      Inv (world (at s (multi T k τ) d false f acc ans) (at t v d false g acc' ans') [] ((d, reply true None) ∷ dats d qb (tail d eb)) next)
   opening' : {s t : Setup} {T : Terms} {k : Msg} {τ : ℕ} {v : State} {d : ℕ} {f g : ℕ → Log} {acc ans acc' ans' : List ℕ} {next : ℕ}
       {wb : List ℕ} {eb : Bool} {qb : List Sent} {unb : List ℕ} →
       Up v wb eb → Un eb unb → Talk (f d) (g d) [] wb false eb [] qb [] unb →
       Books f g d next → Owes acc ans (ids_of k) → Owes acc' ans' wb →
-      Inv (world (at t v d false g acc' ans') (at s (multi T k τ) d false f acc ans) ((d, reply true none) ∷ dats d qb (tail d eb)) [] next)
+      Inv (world (at t v d false g acc' ans') (at s (multi T k τ) d false f acc ans) ((d, reply true None) ∷ dats d qb (tail d eb)) [] next)

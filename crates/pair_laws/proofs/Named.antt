@@ -1,9 +1,10 @@
 -- An answer names its message by its frame: the reference in the frame of each line 22 is the identifier that the unit answers. Closed by cases on
 -- the rule; for the answer to a single-shot transfer, by the invariant: the far unit's acknowledgement is on the way.
+use Rattle.std.specs.Prelude.{None, Option, Some}
 use mathlib.Core.Bool.{Bool, true, false}
-use mathlib.Core.Option.{Option, none, some}
 use mathlib.Core.List.{List, [], ◌∷◌}
 use Prim.Native.Nat.{ℕ, zero, suc}
+use Rattle.book.specs.declared.Refusal.{Refusal}
 use Rattle.book.specs.Book.{Body, Msg, plain, sure, Kind, Frame, msg, note, Reading, bad, good, Line, start, reply, dat, fin, fin_ok, cut, lost, Result, Out, give, answer, ended, gone, seen, send, State, idle, single, multi, ending, assoc, Setup, Outcome, refused, done, body_of, ids_of, without, local, unsure, refuse_all, with_seen, fall, quiet_fall, vet, bar, on_single, on_multi, on_shot, on_vetted, on_request, on_end, on_tick, greet, first_contact, on_start, answered_by, begun, on_reply, noted, on_dat, on_fin, on_fin_ok, on_abort}
 use Rattle.book.specs.declared.Terms.{Terms}
 use Rattle.pair_laws.specs.Model.{World, world, at, as_heard, on_line}
@@ -27,7 +28,7 @@ pub data AllNamed : List Out → Type 0 where
   n_also : {o : Out} {os : List Out} → NamedOut o → AllNamed os → AllNamed (o ∷ os)
 
 pub data NamedOutcome : Outcome → Type 0 where
-  n_refused : {n : ℕ} → NamedOutcome (refused n)
+  n_refused : {n : Refusal} → NamedOutcome (refused n)
   n_done : {st : State} {os : List Out} → AllNamed os → NamedOutcome (done st os)
 
 one : {st : State} {o : Out} → NamedOut o → NamedOutcome (done st (o ∷ []))
@@ -67,21 +68,21 @@ shot_named false a m (ending T w t) = n_refused
 shot_named false a m (assoc T w t) = n_refused
 shot_named true a m st = multi_named (bar a m st) st
   where
-    multi_named : (b : Option ℕ) (st : State) → NamedOutcome (on_multi b a m st)
+    multi_named : (b : Option Refusal) (st : State) → NamedOutcome (on_multi b a m st)
     multi_named b idle = one n_send
     multi_named b (single T w t) = n_refused
     multi_named b (multi T k t) = n_refused
     multi_named b (ending T w t) = n_refused
-    multi_named (some n) (assoc T w t) = n_refused
-    multi_named none (assoc T w t) = one n_send
+    multi_named (Some n) (assoc T w t) = n_refused
+    multi_named None (assoc T w t) = one n_send
 
 pub request_named : (c : Bool) (a : Terms) (r : Reading) (st : State) → NamedOutcome (on_request c a r st)
 unfolding on_request on_vetted
 request_named c a r st = go (vet c r)
   where
     go : (o : Option Msg) → NamedOutcome (on_vetted a o st)
-    go none = n_refused
-    go (some m) = shot_named (body_of m).maintained a m st
+    go None = n_refused
+    go (Some m) = shot_named (body_of m).maintained a m st
 
 pub end_named : (st : State) → NamedOutcome (on_end st)
 unfolding on_end
@@ -113,10 +114,10 @@ greet_named s false a e (sure i r q b) = n_done (seen_named e (n_also n_give (n_
 
 start_named : (s : Setup) (a : Terms) (h : Option Reading) (st : State) → NamedOutcome (on_start s a h st)
 unfolding on_start first_contact
-start_named s a none idle = one n_send
-start_named s a (some (bad n)) idle = one n_send
-start_named s a (some (good (msg m) e)) idle = greet_named s (body_of m).maintained a e m
-start_named s a (some (good (note k r i q b) e)) idle = n_done (seen_named e (n_also n_send n_none))
+start_named s a None idle = one n_send
+start_named s a (Some (bad n)) idle = one n_send
+start_named s a (Some (good (msg m) e)) idle = greet_named s (body_of m).maintained a e m
+start_named s a (Some (good (note k r i q b) e)) idle = n_done (seen_named e (n_also n_send n_none))
 start_named s a f (single T w t) = n_refused
 start_named s a f (multi T k t) = n_refused
 start_named s a f (ending T w t) = n_refused
@@ -124,8 +125,8 @@ start_named s a f (assoc T w t) = n_refused
 
 noted_named : (e : ℕ) (k : Kind) (r : ℕ) (i : Option ℕ) (q : List ℕ) (b : Body) (o : Option (List ℕ)) → AllNamed (noted e k r (note k r i q b) o)
 unfolding noted
-noted_named e k r i q b none = seen_named e n_none
-noted_named e k r i q b (some v) = seen_named e (n_also (n_answer names) n_none)
+noted_named e k r i q b None = seen_named e n_none
+noted_named e k r i q b (Some v) = seen_named e (n_also (n_answer names) n_none)
 
 dat_named : (s : Setup) (r : Reading) (st : State) → NamedOutcome (on_dat s r st)
 unfolding on_dat
@@ -168,16 +169,16 @@ abort_named s r (assoc T w t) = quiet_named s true w r
 -- a reply to those who wait for it: nothing, or a confirmation of the first one's identifier
 abbrev pub NamesHeld : List ℕ → Option Reading → Type 0
 NamesHeld [] h = Unit {0}
-NamesHeld (i ∷ w) none = Unit {0}
-NamesHeld (i ∷ w) (some (bad n)) = Unit {0}
-NamesHeld (i ∷ w) (some (good f e)) = Names f i
+NamesHeld (i ∷ w) None = Unit {0}
+NamesHeld (i ∷ w) (Some (bad n)) = Unit {0}
+NamesHeld (i ∷ w) (Some (good f e)) = Names f i
 
 answered_named : (s : Setup) (w : List ℕ) (h : Option Reading) → NamesHeld w h → AllNamed (answered_by s w h)
 unfolding answered_by local
 answered_named s [] h n = n_none
-answered_named s (i ∷ w) none n = n_also (n_answer names) n_none
-answered_named s (i ∷ w) (some (bad k)) n = n_also (n_answer names) n_none
-answered_named s (i ∷ w) (some (good f e)) n = seen_named e (n_also (n_answer n) n_none)
+answered_named s (i ∷ w) None n = n_also (n_answer names) n_none
+answered_named s (i ∷ w) (Some (bad k)) n = n_also (n_answer names) n_none
+answered_named s (i ∷ w) (Some (good f e)) n = seen_named e (n_also (n_answer n) n_none)
 
 -- only a rejecting reply to a single-shot transfer has to name what it answers
 abbrev pub SuitsReply : State → Option Reading → Type 0
@@ -202,8 +203,8 @@ unfolding on_reply begun
 reply_named s b h idle n = n_refused
 reply_named s true h (single T w t) n = fall_named s false w 10
 reply_named s false h (single T w t) n = n_done (answered_named s w h n)
-reply_named s true none (multi T k t) n = one n_send
-reply_named s true (some f) (multi T k t) n = fall_named s true (ids_of k) 10
+reply_named s true None (multi T k t) n = one n_send
+reply_named s true (Some f) (multi T k t) n = fall_named s true (ids_of k) 10
 reply_named s false h (multi T k t) n = n_done (refuse_named s (ids_of k) (n_also n_gone n_none))
 reply_named s b h (ending T w t) n = n_refused
 reply_named s b h (assoc T w t) n = n_refused

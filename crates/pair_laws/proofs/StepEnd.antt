@@ -1,7 +1,7 @@
 -- G-END (03) keeps the invariant. Closed by cases on the configuration: each computes to a configuration again.
+use Rattle.std.specs.Prelude.{None}
 use mathlib.Core.Path.{refl, ap}
 use mathlib.Core.Bool.{Bool, true, false}
-use mathlib.Core.Option.{none}
 use mathlib.Core.List.{List, [], ◌∷◌}
 use Prim.Native.Nat.{ℕ}
 use Rattle.book.specs.Book.{reply, on_end, waiting_of}
@@ -44,5 +44,5 @@ inv_end (free' a (stranded_multi c v ne lt) k p q) = free' a (stranded_multi c v
 inv_end (opening a b v k p q) = opening a b v k p q
 inv_end (opening' {d = d} {qb = qb} up b v k p q) =
     make_opening' _ (books_flip k) qb down unacked (talk_flip (asking (talk_flip v))) (same_account q) p
-    (ap (λ z. (d, reply true none) ∷ z) (dats-append d qb [] _))
+    (ap (λ z. (d, reply true None) ∷ z) (dats-append d qb [] _))
 inv_end (opening' down b v k p q) = opening' down b v k p q

@@ -1,7 +1,7 @@
 -- A delivered line (10 to 16) keeps the invariant. Closed by cases on the configuration and on the next line, each by the flow's law for it.
+use Rattle.std.specs.Prelude.{Option, Some}
 use mathlib.Core.Path.{◌≡◌, refl, sym, ◌∙◌, ap}
 use mathlib.Core.Bool.{Bool, true, false}
-use mathlib.Core.Option.{Option, some}
 use mathlib.Core.List.{List, [], ◌∷◌, ◌++◌, append-nil, append_assoc}
 use Prim.Native.Nat.{ℕ}
 use Rattle.book.specs.Book.{msg, Body, Msg, plain, sure, State, idle, single, multi, ending, assoc, Setup, ids_of, waiting_of, without, quiet_fall, on_start, first_contact, on_reply, begun, answered_by, on_dat, on_fin, on_fin_ok, on_abort, greet, result_of, single_result, noted, left_waiting, ack, ack_body}
@@ -14,7 +14,7 @@ use Rattle.pair_laws.proofs.Close.{severed_flip, good_severed, good_flip}
 use Rattle.pair_laws.proofs.Tools.{make_talking, make_free, make_left, make_opening', make_ahead, same_account, all_answered, busy_true, sever_again}
 use Rattle.pair_laws.proofs.StepAsk.{sending, books_rebase}
 
-without_eq : {w v : List ℕ} (r : ℕ) → w ≡ r ∷ v → without r w ≡ some v
+without_eq : {w v : List ℕ} (r : ℕ) → w ≡ r ∷ v → without r w ≡ Some v
 without_eq {w} {v} r e = rw e (without_first r v)
 
 shot_of : State → Bool

@@ -1,7 +1,7 @@
 -- A tick (04) keeps the invariant, whether or not it reaches the limit. Closed by cases on the configuration; a fall by what purging leaves.
+use Rattle.std.specs.Prelude.{None}
 use mathlib.Core.Path.{refl, sym, ap}
 use mathlib.Core.Bool.{Bool, true, false}
-use mathlib.Core.Option.{none}
 use mathlib.Core.List.{[], ◌∷◌}
 use Rattle.book.specs.Book.{reply, on_tick, fall, waiting_of}
 use Rattle.pair_laws.specs.Model.{no_fields, at, World, world, act, silent, log_all, log_out, log_sent, emit, carry, post, sever, far_inside, inside, hang, busy, answers, purge}
@@ -89,7 +89,7 @@ inv_tick true (opening a b v k p q) =
 inv_tick false (opening {d = d} {f = f} a b v k p q) = rw (update_id f d) (opening a b v k (same_account p) q)
 inv_tick true (opening' {d = d} {qb = qb} up b v k p q) =
     make_opening' _ (books_flip k) qb down unacked (talk_flip (asking (talk_flip v))) (same_account q) p
-    (ap (λ z. (d, reply true none) ∷ z) (dats-append d qb [] _))
+    (ap (λ z. (d, reply true None) ∷ z) (dats-append d qb [] _))
 inv_tick false (opening' {qb = qb} up b v k p q) = make_opening' _ (books_flip k) qb up b v (same_account q) p refl
 inv_tick true (opening' down b v k p q) =
     simp (emit_unsure, log_unsure, answers_unsure, eqb_refl, purge_dats)

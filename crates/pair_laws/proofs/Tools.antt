@@ -1,7 +1,7 @@
 -- The configurations of the invariant after a step, each from equations for the new queues. Closed by rewriting with those equations.
+use Rattle.std.specs.Prelude.{None}
 use mathlib.Core.Path.{◌≡◌, refl, sym, ◌∙◌, ap, subst, fun_ext}
 use mathlib.Core.Bool.{Bool, true, false}
-use mathlib.Core.Option.{none}
 use mathlib.Core.List.{List, [], ◌∷◌, ◌++◌, append-nil}
 use Prim.Native.Nat.{ℕ, ◌<◌}
 use native.Mathlib.Omega.{arith}
@@ -90,7 +90,7 @@ pub make_opening' : {s t : Setup} {d : ℕ} {f g : ℕ → Log} {acc ans acc' an
     {wb : List ℕ} {eb : Bool} {unb : List ℕ} {out : Queue}
     (l : Log) → Books f g d next → (qb : List Sent) →
     Up u wb eb → Un eb unb → Talk (g d) l [] wb false eb [] qb [] unb →
-    Owes acc ans wb → Owes acc' ans' (ids_of k') → out ≡ (d, reply true none) ∷ dats d qb (tail d eb) →
+    Owes acc ans wb → Owes acc' ans' (ids_of k') → out ≡ (d, reply true None) ∷ dats d qb (tail d eb) →
     Inv (world (at s u d false (update f d l) acc ans) (at t (multi T k' τ) d false g acc' ans') out [] next)
 make_opening' {d} {f} {g} {wb} {eb} {unb} l k qb a b w p q eo =
     rw eo (opening' {qb = qb} a b (subst (λ x. Talk (g d) x [] wb false eb [] qb [] unb) (sym (update_same f d l)) w)

@@ -1,7 +1,6 @@
 -- TWO UNITS AND THE LINK BETWEEN THEM (01, "Link rules of demand 3"), at the level of messages: what travels, what each end writes down of a
 -- dialogue, and what can happen. What a unit does is the rule book's (crate book); nothing about a unit is said anew here.
-use Rattle.std.specs.Prelude.{Bool, true, false, List, [], ◌∷◌, ◌++◌, ℕ, suc, eqb}
-use Rattle.std.proofs.Math.Option.{Option, none, some}
+use Rattle.std.specs.Prelude.{Bool, true, false, List, [], ◌∷◌, ◌++◌, ℕ, suc, eqb, None, Option, Some}
 use Rattle.octets.specs.Choice.{pick, both, either}
 use Rattle.book.specs.Book.{Msg, Frame, msg, note, Reading, bad, good, Line, start, reply, dat, fin, fin_ok, cut, lost, success, failed, uncertain, Out, give, answer, ended, gone, seen, send, State, idle, single, multi, ending, assoc, Setup, Outcome, refused, done, ids_of, vet, on_request, on_end, late, on_tick, on_start, on_reply, on_dat, on_fin, on_fin_ok, on_abort}
 use Rattle.book.specs.declared.Terms.{Terms}
@@ -69,8 +68,8 @@ log_okay i l = record { handed = l.handed; given = l.given; okays = l.okays ++ (
 
 -- what an end writes down of a line that it sends, 30 to 35
 unfoldable pub log_sent : Line → Log → Log
-log_sent (start a none) l = l
-log_sent (start a (some f)) l = log_read f l
+log_sent (start a None) l = l
+log_sent (start a (Some f)) l = log_read f l
 log_sent (reply a f) l = l
 log_sent (dat f) l = log_read f l
 log_sent fin l = log_fate ask l
@@ -180,10 +179,10 @@ with_fields x (bad n) = bad n
 with_fields x (good f n) = good f (x f)
 
 unfoldable pub extended : (x : Fields) → Line → Line
-extended x (start a none) = start a none
-extended x (start a (some r)) = start a (some (with_fields x r))
-extended x (reply b none) = reply b none
-extended x (reply b (some r)) = reply b (some (with_fields x r))
+extended x (start a None) = start a None
+extended x (start a (Some r)) = start a (Some (with_fields x r))
+extended x (reply b None) = reply b None
+extended x (reply b (Some r)) = reply b (Some (with_fields x r))
 extended x (dat r) = dat (with_fields x r)
 extended x fin = fin
 extended x (fin_ok b) = fin_ok b
@@ -268,8 +267,8 @@ ask_with x new false false o w = act_there x new silent o w (fresh w)
 
 -- the identifier of a confirmed transfer that is vetted
 unfoldable pub asked_ids : Option Msg → List ℕ
-asked_ids none = []
-asked_ids (some m) = ids_of m
+asked_ids None = []
+asked_ids (Some m) = ids_of m
 
 unfoldable pub ask_near : (confirmed : Bool) (x : Fields) → Terms → Reading → World → World
 ask_near c x a r (world (at s u d h f acc ans) b out inn next) =

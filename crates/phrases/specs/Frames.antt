@@ -1,6 +1,5 @@
 -- A frame in words: each field that is present, in 01's order, or the fault.
-use Rattle.std.specs.Prelude.{ℕ, List, [], ◌++◌, eqb, length}
-use Rattle.std.proofs.Math.Option.{Option, none, some}
+use Rattle.std.specs.Prelude.{ℕ, List, [], ◌++◌, eqb, length, None, Option, Some}
 use Rattle.octets.specs.Choice.{pick}
 use Rattle.frame.specs.Faults.{fault_number}
 use Rattle.frame.specs.Reading.{reading_of}
@@ -16,8 +15,8 @@ use Rattle.phrases.specs.Tables.{shot_words, confirmation_words, fault_meaning}
 
 -- a number after a word, where there is one
 unfoldable pub numbered : (word : List ℕ) → Option ℕ → List ℕ
-numbered word none = []
-numbered word (some n) = word ++ decimal n
+numbered word None = []
+numbered word (Some n) = word ++ decimal n
 
 -- "type, 1 octet; identifier, 2; reference, 2"
 abbrev pub type_word : List ℕ

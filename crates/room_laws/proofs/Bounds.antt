@@ -1,13 +1,14 @@
 -- Every event's lines are within 1,024 octets and ten lines, in every state of a unit. Closed by cases on the state and on what was read.
+use Rattle.std.specs.Prelude.{None, Option, Some}
 use Prim.Native.Nat.{ℕ, zero, suc, ◌≤◌}
 use mathlib.Core.Path.{◌≡◌}
 use mathlib.Core.Bool.{Bool, true, false}
-use mathlib.Core.Option.{Option, none, some}
 use mathlib.Core.List.{List, [], ◌∷◌}
 use native.Mathlib.Omega.{arith}
 use lib.ListN.{length}
 use Rattle.octets.specs.Choice.{pick}
 use Rattle.book.specs.declared.Terms.{Terms}
+use Rattle.book.specs.declared.Refusal.{Refusal}
 use Rattle.book.specs.Book.{Msg, plain, sure, Kind, unknown, Frame, msg, note, Reading, bad, good, start, reply, dat, fin, fin_ok, cut, uncertain, Out, give, answer, ended, gone, send, State, idle, single, multi, ending, assoc, Setup, Outcome, refused, done, settled, ids_of, waiting_of, without, body_of, ack, local, fall, quiet_fall, vet, bar, on_single, on_multi, on_shot, on_vetted, on_request, on_end, on_tick, greet, first_contact, on_start, result_of, single_result, answered_by, begun, on_reply, noted, on_dat, on_fin, on_fin_ok, on_abort}
 use Rattle.book.specs.View.{msg_octets, frame_octets, frame_message}
 use Rattle.book.specs.Lines.{line_of, laid_out, read_octets, held_octets}
@@ -15,7 +16,7 @@ use Rattle.room_laws.proofs.Widths.{Within, nothing, line, local_short, ack_shor
 
 -- a refusal, or lines that the buffer holds
 pub data Fits : Outcome → Type 0 where
-  barred : {n : ℕ} → Fits (refused n)
+  barred : {n : Refusal} → Fits (refused n)
   fits : {st : State} {os : List Out} {n k : ℕ} → Within os n k → n ≤ 1024 → k ≤ 10 → Fits (done st os)
 
 pub fits_pick : (b : Bool) {x y : Outcome} → Fits x → Fits y → Fits (pick b x y)
@@ -57,20 +58,20 @@ give_short a m h = omega arith
 module _ (a : Terms) (m : Msg) (h : length (frame_octets (msg m)) ≤ 554) where
   single_fits : (st : State) → Fits (on_single a m st)
   unfolding on_single
-  single_fits idle = one (send (start (settled a) (some (good (msg m) 0)))) 558 (omega arith) (omega arith)
+  single_fits idle = one (send (start (settled a) (Some (good (msg m) 0)))) 558 (omega arith) (omega arith)
   single_fits (single T w t) = barred
   single_fits (multi T k t) = barred
   single_fits (ending T w t) = barred
   single_fits (assoc T w t) = barred
 
-  multi_fits : (b : Option ℕ) (st : State) → Fits (on_multi b a m st)
+  multi_fits : (b : Option Refusal) (st : State) → Fits (on_multi b a m st)
   unfolding on_multi
-  multi_fits b idle = one (send (start (settled a) none)) 4 (omega arith) (omega arith)
+  multi_fits b idle = one (send (start (settled a) None)) 4 (omega arith) (omega arith)
   multi_fits b (single T w t) = barred
   multi_fits b (multi T k t) = barred
   multi_fits b (ending T w t) = barred
-  multi_fits (some n) (assoc T w t) = barred
-  multi_fits none (assoc T w t) = one (send (dat (good (msg m) 0))) 555 (omega arith) (omega arith)
+  multi_fits (Some n) (assoc T w t) = barred
+  multi_fits None (assoc T w t) = one (send (dat (good (msg m) 0))) 555 (omega arith) (omega arith)
 
   shot_fits : (b : Bool) (st : State) → Fits (on_shot b a m st)
   unfolding on_shot
@@ -124,20 +125,20 @@ module _ (s : Setup) (named : length s.name ≤ 32) where
   unfolding greet
   greet_fits true a e m h = fits (seen_within e (line (send (cut 10)) 2 (omega arith) nothing)) (omega arith) (omega arith)
   greet_fits false a e (plain i r q b) h =
-      fits (seen_within e (line (give a (plain i r q b)) 558 (give_short a (plain i r q b) h) (line (send (reply false none)) 2 (omega arith) nothing)))
+      fits (seen_within e (line (give a (plain i r q b)) 558 (give_short a (plain i r q b) h) (line (send (reply false None)) 2 (omega arith) nothing)))
       (omega arith) (omega arith)
   greet_fits false a e (sure i r q b) h =
       let l = ack_short s named i b in
       fits (seen_within e (line (give a (sure i r q b)) 558 (give_short a (sure i r q b) h)
-      (line (send (reply false (some (good (ack s i b) 0)))) 40 (omega arith) nothing)))
+      (line (send (reply false (Some (good (ack s i b) 0)))) 40 (omega arith) nothing)))
       (omega arith) (omega arith)
 
   first_fits : (a : Terms) (f : Option Reading) → length (held_octets f) ≤ 554 → Fits (first_contact s a f)
   unfolding first_contact
-  first_fits a none h = one (send (reply true none)) 2 (omega arith) (omega arith)
-  first_fits a (some (bad n)) h = one (send (cut n)) 2 (omega arith) (omega arith)
-  first_fits a (some (good (msg m) e)) h = greet_fits (body_of m).maintained a e m h
-  first_fits a (some (good (note k r i q b) e)) h = fits (seen_within e (line (send (cut 10)) 2 (omega arith) nothing)) (omega arith) (omega arith)
+  first_fits a None h = one (send (reply true None)) 2 (omega arith) (omega arith)
+  first_fits a (Some (bad n)) h = one (send (cut n)) 2 (omega arith) (omega arith)
+  first_fits a (Some (good (msg m) e)) h = greet_fits (body_of m).maintained a e m h
+  first_fits a (Some (good (note k r i q b) e)) h = fits (seen_within e (line (send (cut 10)) 2 (omega arith) nothing)) (omega arith) (omega arith)
 
   pub start_fits : (a : Terms) (f : Option Reading) (st : State) → length (held_octets f) ≤ 554 → Fits (on_start s a f st)
   unfolding on_start
@@ -151,19 +152,19 @@ module _ (s : Setup) (named : length s.name ≤ 32) where
   answered_fits : (w : List ℕ) (f : Option Reading) → length (held_octets f) ≤ 554 → Fits (done idle (answered_by s w f))
   unfolding answered_by
   answered_fits [] f h = quiet
-  answered_fits (i ∷ w) none h =
+  answered_fits (i ∷ w) None h =
       let l = local_short s named false unknown i in
       one (answer i uncertain (local s false unknown i)) 40 (omega arith) (omega arith)
-  answered_fits (i ∷ w) (some (bad n)) h =
+  answered_fits (i ∷ w) (Some (bad n)) h =
       let l = local_short s named false unknown i in
       one (answer i uncertain (local s false unknown i)) 40 (omega arith) (omega arith)
-  answered_fits (i ∷ w) (some (good f e)) h =
+  answered_fits (i ∷ w) (Some (good f e)) h =
       fits (seen_within e (line (answer i (single_result f) f) 556 (omega arith) nothing)) (omega arith) (omega arith)
 
   begun_fits : (a : Terms) (k : Msg) (f : Option Reading) → length (ids_of k) ≤ 8 → length (msg_octets k) ≤ 554 → Fits (begun s a k f)
   unfolding begun frame_octets frame_message msg_octets
-  begun_fits a k none h l = one (send (dat (good (msg k) 0))) 555 (omega arith) (omega arith)
-  begun_fits a k (some f) h l = fall_fits true (ids_of k) 10 h
+  begun_fits a k None h l = one (send (dat (good (msg k) 0))) 555 (omega arith) (omega arith)
+  begun_fits a k (Some f) h l = fall_fits true (ids_of k) 10 h
 
   pub reply_fits : (b : Bool) (f : Option Reading) (st : State) → length (waiting_of st) ≤ 8 → length (held_by st) ≤ 554 → length (held_octets f) ≤ 554
       → Fits (on_reply s b f st)
@@ -179,8 +180,8 @@ module _ (s : Setup) (named : length s.name ≤ 32) where
   -- ---- 12
   noted_fits : (st : State) (e : ℕ) (k : Kind) (r : ℕ) (f : Frame) (v : Option (List ℕ)) → length (frame_octets f) ≤ 554 → Fits (done st (noted e k r f v))
   unfolding noted
-  noted_fits st e k r f none h = fits (seen_within e nothing) (omega arith) (omega arith)
-  noted_fits st e k r f (some v) h = fits (seen_within e (line (answer r (result_of k) f) 556 (omega arith) nothing)) (omega arith) (omega arith)
+  noted_fits st e k r f None h = fits (seen_within e nothing) (omega arith) (omega arith)
+  noted_fits st e k r f (Some v) h = fits (seen_within e (line (answer r (result_of k) f) 556 (omega arith) nothing)) (omega arith) (omega arith)
 
   pub data_fits : (f : Reading) (st : State) → length (waiting_of st) ≤ 8 → length (read_octets f) ≤ 554 → Fits (on_dat s f st)
   unfolding on_dat waiting_of

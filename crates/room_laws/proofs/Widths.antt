@@ -1,7 +1,7 @@
 -- How many octets and lines a list of output lines takes: line by line, and the answers made locally. Closed by induction on the list.
+use Rattle.std.specs.Prelude.{None, Option, Some}
 use Prim.Native.Nat.{ℕ, zero, suc, ◌+◌, ◌*◌, ◌≤◌}
 use mathlib.Core.Bool.{Bool, true}
-use mathlib.Core.Option.{Option, none, some}
 use mathlib.Core.List.{List, [], ◌∷◌, map, append-nil}
 use native.Mathlib.Omega.{arith}
 use lib.ListN.{length, length-append}
@@ -30,17 +30,17 @@ line o c {os} h w = record {
 -- ---- a note made here
 
 note_short : (k : Kind) (r : ℕ) (name : List ℕ) (m : Bool) (t : Option ℕ) → length name ≤ 32 →
-    length (frame_octets (note k r none name (record { maintained = m; type = t; user_data = none }))) ≤ 38
+    length (frame_octets (note k r None name (record { maintained = m; type = t; user_data = None }))) ≤ 38
 unfolding frame_octets frame_message
-note_short k r name m none h =
-    rw (encode_is (frame_message (note k r none name (record { maintained = m; type = none; user_data = none }))), append-nil name) (omega arith)
-note_short k r name m (some t) h =
-    rw (encode_is (frame_message (note k r none name (record { maintained = m; type = some t; user_data = none }))), append-nil name) (omega arith)
+note_short k r name m None h =
+    rw (encode_is (frame_message (note k r None name (record { maintained = m; type = None; user_data = None }))), append-nil name) (omega arith)
+note_short k r name m (Some t) h =
+    rw (encode_is (frame_message (note k r None name (record { maintained = m; type = Some t; user_data = None }))), append-nil name) (omega arith)
 
 module _ (s : Setup) (named : length s.name ≤ 32) where
   pub local_short : (m : Bool) (k : Kind) (i : ℕ) → length (frame_octets (local s m k i)) ≤ 38
   unfolding local
-  local_short m k i = note_short k i s.name m none named
+  local_short m k i = note_short k i s.name m None named
 
   pub ack_short : (i : ℕ) (b : Body) → length (frame_octets (ack s i b)) ≤ 38
   unfolding ack ack_body

@@ -1,8 +1,7 @@
 -- The rule book's lines as the functions of this crate lay them.
 -- No public contract speaks of this file, only contracts of functions inside a crate: a reader of 01 may skip it.
-use Rattle.std.specs.Prelude.{ℕ, List, [], map, Bool, true, false}
+use Rattle.std.specs.Prelude.{ℕ, List, [], map, Bool, true, false, Some}
 use Rattle.frame.specs.declared.Header.{Header}
-use Rattle.std.proofs.Math.Option.{some}
 use Rattle.book.specs.declared.Terms.{Terms}
 use Rattle.book.specs.Book.{Msg, Frame, Setup, Outcome, first_contact, good, Out, State, idle, single, multi, ending, assoc, unsure, with_seen, waiting_of}
 use Rattle.book.specs.Lines.{line_of}
@@ -40,4 +39,4 @@ msg_at s h = msg_in (good (frame_at s h) 0)
 
 -- 10 with a valid frame
 unfoldable pub greeted : Setup → Terms → Frame → ℕ → Outcome
-greeted s a f n = first_contact s a (some (good f n))
+greeted s a f n = first_contact s a (Some (good f n))

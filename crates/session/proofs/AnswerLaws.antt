@@ -1,8 +1,8 @@
 -- Laws of a line's answer: the room of what a unit lays, and the setup of a first line. Closed by cases on the outcome, and by the tests.
+use Rattle.std.specs.Prelude.{None, Option}
 use Prim.Native.Nat.{ℕ, ◌+◌, ◌-◌, ◌<◌, ◌≤◌}
 use mathlib.Core.Path.{◌≡◌, refl, ap, sym, ◌∙◌}
 use mathlib.Core.Bool.{Bool, true, false}
-use mathlib.Core.Option.{Option, none}
 use mathlib.Core.List.{List, [], ◌∷◌, ◌++◌, append-nil}
 use native.Mathlib.Omega.{arith}
 use borrow.Author.Tests.{ne_eqb}
@@ -189,7 +189,7 @@ end_first p true u e h k = (rw (e, append-nil (text (refusal_line 7 ∷ []))) h,
 end_first p false u e h k = (rw e h, omega arith)
 
 pub end_open : {out image after : List ℕ} {r : Fed} (p : Phase) (left : Bool) → p ≡ Running → left ≡ true
-    → Takes (heard 0 (gone_on (unit_of image) (later_outcome (unit_of image) none))) out 0 image after r
+    → Takes (heard 0 (gone_on (unit_of image) (later_outcome (unit_of image) None))) out 0 image after r
     → (Put out 0 (listed p (unit_of image) (last_line left)) after r.written) × (r.written ≤ most)
 unfolding listed answer_to
 end_open {image = image} p left e f h =

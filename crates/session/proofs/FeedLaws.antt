@@ -1,8 +1,8 @@
 -- Laws of a part of the input: one line taken, and one line after the other. Closed by the tests of a line, and by induction on the lines.
+use Rattle.std.specs.Prelude.{None}
 use Prim.Native.Nat.{ℕ, zero, suc, ◌+◌, ◌-◌, ◌<◌, ◌≤◌}
 use mathlib.Core.Path.{◌≡◌, refl, ap, sym, ◌∙◌}
 use mathlib.Core.Bool.{Bool, true, false}
-use mathlib.Core.Option.{none}
 use mathlib.Core.List.{List, [], ◌++◌, append-nil, append_assoc}
 use native.Mathlib.Nat.{add-zero}
 use native.Mathlib.Omega.{arith}
@@ -30,7 +30,7 @@ untaken s = record { session = s; taken = 0; lines = [] }
 
 -- the three ways of a line: it has its line feed; it is passed over, as far as it stands; it is left for later
 pub data How (s : Standing) (i : List ℕ) : Taken → Type 0 where
-  ended : to_feed i < length i → How s i (heard (to_feed i + 1) (answer_to s.phase s.unit (pick s.passing none (event_in (take (to_feed i) i)))))
+  ended : to_feed i < length i → How s i (heard (to_feed i + 1) (answer_to s.phase s.unit (pick s.passing None (event_in (take (to_feed i) i)))))
   over : length i ≤ to_feed i → either s.passing (ltb 4096 (length i)) ≡ true → How s i (record { session = passing_over s; taken = length i; lines = [] })
   left : length i ≤ to_feed i → s.passing ≡ false → length i ≤ 4096 → How s i (untaken s)
 
@@ -39,7 +39,7 @@ unfolding line_taken
 how s i = go (ltb (to_feed i) (length i)) refl s.passing refl (ltb 4096 (length i)) refl
   where
     go : (x : Bool) → x ≡ ltb (to_feed i) (length i) → (p : Bool) → p ≡ s.passing → (y : Bool) → y ≡ ltb 4096 (length i)
-        → How s i (pick x (heard (to_feed i + 1) (answer_to s.phase s.unit (pick s.passing none (event_in (take (to_feed i) i)))))
+        → How s i (pick x (heard (to_feed i + 1) (answer_to s.phase s.unit (pick s.passing None (event_in (take (to_feed i) i)))))
         (pick (either p y) (record { session = passing_over s; taken = length i; lines = [] }) (untaken s)))
     go true e p q y r = ended (ltb-true (to_feed i) (length i) (sym e))
     go false e true q y r = over (ltb-false (to_feed i) (length i) (sym e)) (ap (λ b. either b (ltb 4096 (length i))) (sym q))

@@ -1,8 +1,8 @@
 -- Laws of the line at the front of the input, as the code finds it; and of the input's end. Closed by the tests of a line.
+use Rattle.std.specs.Prelude.{None, Some}
 use Prim.Native.Nat.{ℕ, ◌+◌, ◌-◌, ◌<◌, ◌≤◌}
 use mathlib.Core.Path.{◌≡◌, refl, ap, sym, ◌∙◌}
 use mathlib.Core.Bool.{Bool, true, false}
-use mathlib.Core.Option.{none, some}
 use mathlib.Core.List.{List, []}
 use native.Mathlib.Omega.{arith}
 use borrow.Author.Tests.{le-ltb, lt-ltb, ltb-false}
@@ -52,7 +52,7 @@ unfolding feed_from
 feed_is i e h = omega arith
 
 pub pass_ended : (s : Standing) (i : List ℕ) (e : ℕ) → true ≡ s.passing → e ≡ feed_from i 0 → e < length i
-    → line_taken s i ≡ heard (e + 1) (answer_to s.phase s.unit none)
+    → line_taken s i ≡ heard (e + 1) (answer_to s.phase s.unit None)
 unfolding line_taken
 pass_ended s i e p h k = let f = feed_is i e h in rw (lt-ltb (to_feed i) (length i) (omega arith), ← p, f)
 
@@ -67,7 +67,7 @@ line_reads i r e₀ e w q g = record { line = q; octets = λ n next k. found_oct
 
 module _ (s : Standing) (i : List ℕ) where
   taken_octets : (l : Line) → Found i l → (n next : ℕ) → l ≡ Octets n next → false ≡ s.passing
-      → line_taken s i ≡ heard next (answer_to s.phase s.unit (some (leading i)))
+      → line_taken s i ≡ heard next (answer_to s.phase s.unit (Some (leading i)))
   unfolding line_taken
   taken_octets l (octets o h f) n next q p =
       let m : o ≡ leading i = (event_is (take (to_feed i) i) o f).0 ∙ leading_cut i in
@@ -77,7 +77,7 @@ module _ (s : Standing) (i : List ℕ) where
   taken_octets l (unended h) n next q p = let z : ◌≡◌ {A = ℕ} 0 1 = cc in absurd (omega arith)
 
   taken_refused : (l : Line) → Found i l → (next : ℕ) → l ≡ Refused next → false ≡ s.passing
-      → line_taken s i ≡ heard next (answer_to s.phase s.unit none)
+      → line_taken s i ≡ heard next (answer_to s.phase s.unit None)
   unfolding line_taken
   taken_refused l (refused h f) next q p = let d : next ≡ to_feed i + 1 = cc in rw (lt-ltb (to_feed i) (length i) h, ← p, f, d)
   taken_refused l (octets o h f) next q p = let z : ◌≡◌ {A = ℕ} 0 1 = cc in absurd (omega arith)
@@ -91,11 +91,11 @@ module _ (s : Standing) (i : List ℕ) where
 
   module _ {r : Line} {e : List ℕ} (l : LineRead i r e) where
     pub line_octets : (n next : ℕ) → r ≡ Octets n next → (o : List ℕ) → o ≡ take n e → false ≡ s.passing
-        → line_taken s i ≡ heard next (answer_to s.phase s.unit (some o))
+        → line_taken s i ≡ heard next (answer_to s.phase s.unit (Some o))
     line_octets n next q o f p =
-        taken_octets (line_in i) (found i) n next (sym l.line ∙ q) p ∙ ap (λ x. heard next (answer_to s.phase s.unit (some x))) (sym (f ∙ l.octets n next q))
+        taken_octets (line_in i) (found i) n next (sym l.line ∙ q) p ∙ ap (λ x. heard next (answer_to s.phase s.unit (Some x))) (sym (f ∙ l.octets n next q))
 
-    pub line_refused : (next : ℕ) → r ≡ Refused next → false ≡ s.passing → line_taken s i ≡ heard next (answer_to s.phase s.unit none)
+    pub line_refused : (next : ℕ) → r ≡ Refused next → false ≡ s.passing → line_taken s i ≡ heard next (answer_to s.phase s.unit None)
     line_refused next q p = taken_refused (line_in i) (found i) next (sym l.line ∙ q) p
 
     pub line_open : r ≡ Open → line_taken s i ≡ not_ended s i

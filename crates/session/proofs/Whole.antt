@@ -1,9 +1,9 @@
 -- THE LISTING IN PARTS IS THE WHOLE: however the input is cut into reads, whatever room is lent and however many lines there are, what a run of the
 -- program writes is `listing` of its input. Closed by induction on the run; each step by what the output still to come is (`whole`).
+use Rattle.std.specs.Prelude.{None, Option, Some}
 use Prim.Native.Nat.{ℕ, zero, suc, ◌+◌, ◌-◌, ◌<◌, ◌≤◌}
 use mathlib.Core.Path.{◌≡◌, refl, ap, sym, subst, ◌∙◌}
 use mathlib.Core.Bool.{Bool, true, false}
-use mathlib.Core.Option.{Option, none, some}
 use mathlib.Core.List.{List, [], ◌∷◌, ◌++◌, append-nil, append_assoc}
 use native.Mathlib.Numerals.{add-one}
 use native.Mathlib.Omega.{arith}
@@ -26,8 +26,8 @@ use Rattle.session.proofs.FeedLaws.{How, ended, over, left, how}
 
 -- the events of what follows a line that is passed over
 abbrev pub passed : List ℕ → List (Option (List ℕ))
-passed [] = none ∷ []
-passed (c ∷ s) = pick (eqb c 10) (none ∷ events_from [] s) (passed s)
+passed [] = None ∷ []
+passed (c ∷ s) = pick (eqb c 10) (None ∷ events_from [] s) (passed s)
 
 abbrev pub coming : (passing : Bool) → List ℕ → List (Option (List ℕ))
 coming false i = events_from [] i
@@ -54,14 +54,14 @@ split line (c ∷ i) more h = go (split (line ++ (c ∷ [])) i more) (eqb c 10) 
     go f true k = rw append-nil
     go f false k = f (omega arith) ∙ rw (append_assoc line (c ∷ []) (take (to_feed i) i), add-one (suc (to_feed i)), add-one (to_feed i))
 
-over_split : (i more : List ℕ) → to_feed i < length i → passed (i ++ more) ≡ none ∷ events_from [] (drop (to_feed i + 1) i ++ more)
+over_split : (i more : List ℕ) → to_feed i < length i → passed (i ++ more) ≡ None ∷ events_from [] (drop (to_feed i + 1) i ++ more)
 unfolding to_feed
 over_split [] more h = absurd (omega arith)
 over_split (c ∷ i) more h = go (over_split i more) (eqb c 10) h
   where
-    go : (to_feed i < length i → passed (i ++ more) ≡ none ∷ events_from [] (drop (to_feed i + 1) i ++ more))
+    go : (to_feed i < length i → passed (i ++ more) ≡ None ∷ events_from [] (drop (to_feed i + 1) i ++ more))
         → (x : Bool) → pick x 0 (suc (to_feed i)) < suc (length i)
-        → pick x (none ∷ events_from [] (i ++ more)) (passed (i ++ more)) ≡ none ∷ events_from [] (drop (pick x 0 (suc (to_feed i)) + 1) (c ∷ i) ++ more)
+        → pick x (None ∷ events_from [] (i ++ more)) (passed (i ++ more)) ≡ None ∷ events_from [] (drop (pick x 0 (suc (to_feed i)) + 1) (c ∷ i) ++ more)
     go f true k = refl
     go f false k = f (omega arith) ∙ rw (add-one (suc (to_feed i)), add-one (to_feed i))
 
@@ -83,16 +83,16 @@ over_joined [] more h = refl
 over_joined (c ∷ i) more h = go (over_joined i more) (eqb c 10) h
   where
     go : (length i ≤ to_feed i → passed (i ++ more) ≡ passed more) → (x : Bool) → suc (length i) ≤ pick x 0 (suc (to_feed i))
-        → pick x (none ∷ events_from [] (i ++ more)) (passed (i ++ more)) ≡ passed more
+        → pick x (None ∷ events_from [] (i ++ more)) (passed (i ++ more)) ≡ passed more
     go f true k = absurd (omega arith)
     go f false k = f (omega arith)
 
 -- a line that is too long is no event, whatever follows
-too_long : (line : List ℕ) → 4096 < length line → event_in line ≡ none
+too_long : (line : List ℕ) → 4096 < length line → event_in line ≡ None
 unfolding event_in
 too_long line h = rw (lt-leb (length line) 4096 h) (never (ltb 0 (length line)))
   where
-    never : (x : Bool) → pick (both x false) (some (leading line)) none ≡ none
+    never : (x : Bool) → pick (both x false) (Some (leading line)) None ≡ None
     never true = refl
     never false = refl
 
@@ -103,7 +103,7 @@ long_passed (c ∷ line) [] h = refl
 long_passed line (c ∷ more) h = go (long_passed (line ++ (c ∷ [])) more) (eqb c 10)
   where
     go : (4096 < length (line ++ (c ∷ [])) → events_from (line ++ (c ∷ [])) more ≡ passed more) → (x : Bool)
-        → pick x (event_in line ∷ events_from [] more) (events_from (line ++ (c ∷ [])) more) ≡ pick x (none ∷ events_from [] more) (passed more)
+        → pick x (event_in line ∷ events_from [] more) (events_from (line ++ (c ∷ [])) more) ≡ pick x (None ∷ events_from [] more) (passed more)
     go f true = rw (too_long line h)
     go f false = f (omega (arith, length-append line (c ∷ [])))
 
@@ -115,7 +115,7 @@ unfolding listed text
 line_whole s i more t (ended h) = go s.passing refl
   where
     answered : Bool → List ℕ
-    answered p = listed s.phase s.unit (pick p none (event_in (take (to_feed i) i)) ∷ events_from [] (drop (to_feed i + 1) i ++ more))
+    answered p = listed s.phase s.unit (pick p None (event_in (take (to_feed i) i)) ∷ events_from [] (drop (to_feed i + 1) i ++ more))
 
     go : (p : Bool) → p ≡ s.passing → listed s.phase s.unit (coming s.passing (i ++ more)) ≡ answered s.passing
     go true e = rw (← e, over_split i more h)
@@ -169,7 +169,7 @@ unfolding events_from
 left_events s held t (ended h) e = absurd (omega arith)
 left_events s [] t (over h o) e = go s.passing o
   where
-    go : (p : Bool) → either p (ltb 4096 0) ≡ true → coming p [] ≡ pick (either p (ltb 0 0)) (none ∷ []) []
+    go : (p : Bool) → either p (ltb 4096 0) ≡ true → coming p [] ≡ pick (either p (ltb 0 0)) (None ∷ []) []
     go true k = refl
     go false k = absurd (subst T (sym k) tt)
 left_events s (c ∷ held) t (over h o) e = absurd (omega arith)
@@ -182,7 +182,7 @@ none_events : (s : Standing) (held : List ℕ) (room : ℕ) → most ≤ room �
 unfolding feeding events_from
 none_events s [] room h e = go s.passing
   where
-    go : (p : Bool) → coming p [] ≡ pick (either p (ltb 0 0)) (none ∷ []) []
+    go : (p : Bool) → coming p [] ≡ pick (either p (ltb 0 0)) (None ∷ []) []
     go true = refl
     go false = refl
 none_events s (c ∷ held) room h e =

@@ -1,7 +1,6 @@
 -- The listing in parts: what a session makes of the input that it is handed, however that is cut. That the parts give the whole is a theorem
 -- (proofs/Whole).
-use Rattle.std.specs.Prelude.{ℕ, zero, suc, ◌+◌, ◌-◌, ◌≤◌, ◌≡◌, Bool, true, false, List, [], ◌∷◌, ◌++◌, ltb, length, take, drop}
-use Rattle.std.proofs.Math.Option.{Option, none}
+use Rattle.std.specs.Prelude.{ℕ, zero, suc, ◌+◌, ◌-◌, ◌≤◌, ◌≡◌, Bool, true, false, List, [], ◌∷◌, ◌++◌, ltb, length, take, drop, None, Option}
 use Rattle.octets.specs.Choice.{pick, either}
 use Rattle.octets.specs.Put.{Put}
 use Rattle.text.specs.Reading.{to_feed, event_in}
@@ -57,7 +56,7 @@ not_ended s i =
 unfoldable pub line_taken : Standing → List ℕ → Taken
 line_taken s i =
     pick (ltb (to_feed i) (length i))
-    (heard (to_feed i + 1) (answer_to s.phase s.unit (pick s.passing none (event_in (take (to_feed i) i)))))
+    (heard (to_feed i + 1) (answer_to s.phase s.unit (pick s.passing None (event_in (take (to_feed i) i)))))
     (not_ended s i)
 
 -- ---- all lines for which there is room
@@ -98,7 +97,7 @@ pub record Feeds (s : Standing) (i before : List ℕ) (r : Fed) (block after : L
 
 -- the last line, where one stands without its line feed
 abbrev pub last_line : (left : Bool) → List (Option (List ℕ))
-last_line left = pick left (none ∷ []) []
+last_line left = pick left (None ∷ []) []
 
 abbrev pub last_events : Standing → (held : List ℕ) → List (Option (List ℕ))
 last_events s held = last_line (either s.passing (ltb 0 (length held)))

@@ -1,7 +1,6 @@
 -- THE LISTING, from the octets of its input to those of its output. 01, "Events, lines and the listing": "The listing program reads standard input
 -- as lower-case hexadecimal, one event a line, at most 4,096 digits, each line ended by a line feed."
-use Rattle.std.specs.Prelude.{ℕ, ◌+◌, ◌*◌, List, [], ◌∷◌, ◌++◌, map, eqb, drop, get_or}
-use Rattle.std.proofs.Math.Option.{Option, none, some}
+use Rattle.std.specs.Prelude.{ℕ, ◌+◌, ◌*◌, List, [], ◌∷◌, ◌++◌, map, eqb, drop, get_or, None, Option, Some}
 use Rattle.octets.specs.Choice.{pick}
 use Rattle.text.specs.Reading.{event_in}
 use Rattle.text.specs.Printing.{printed}
@@ -20,7 +19,7 @@ use Rattle.session.specs.declared.Phase.TheVariants.{First, Running, Stopped}
 -- a last line without its line feed, where there is one
 abbrev pub unended : (line : List ℕ) → List (Option (List ℕ))
 unended [] = []
-unended (c ∷ line) = none ∷ []
+unended (c ∷ line) = None ∷ []
 
 -- The events of the input's lines in order, `line` being what stands of the first one already. None of an event: "an empty line, an odd count, a
 -- foreign character, a longer line or a last line without its line feed".
@@ -63,8 +62,8 @@ unfoldable pub setup_in : List ℕ → Turn
 setup_in s = pick (eqb (get_or s 0 1) 0) (set_up (two s 1) (two s 3) (two s 5) (drop 7 s)) no_setup
 
 abbrev pub first_turn : Option (List ℕ) → Turn
-first_turn none = no_setup
-first_turn (some s) = setup_in s
+first_turn None = no_setup
+first_turn (Some s) = setup_in s
 
 -- "After a good setup it prints `f000`; after any other first line, or none at all, `ff07`, and stops."
 abbrev pub begun : Value → Verdict → Answer
@@ -75,8 +74,8 @@ begun u (Refused n) = record { phase = Stopped; unit = u; lines = refusal_line n
 
 -- "Later, an empty line, an odd count, … is refusal 08."
 abbrev pub later_outcome : Value → Option (List ℕ) → Outcome
-later_outcome u none = refused 8
-later_outcome u (some s) = step 1024 u s
+later_outcome u None = refused 8
+later_outcome u (Some s) = step 1024 u s
 
 -- "the output lines, or `ff` and the refusal number"
 abbrev pub outcome_lines : Outcome → List (List ℕ)

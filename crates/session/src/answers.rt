@@ -1,6 +1,5 @@
 // What a line of the input leaves and prints: the first line, each later one, and a line that is none.
-ghost use Rattle.std.specs.Prelude.{◌≡◌, ◌≤◌, ◌<◌, ◌+◌, length};
-ghost use Rattle.std.proofs.Math.Option.{none, some};
+ghost use Rattle.std.specs.Prelude.{◌≡◌, ◌≤◌, ◌<◌, ◌+◌, length, None, Some};
 ghost use Rattle.octets.specs.Put.{Put};
 ghost use Rattle.book.specs.Step.{step};
 ghost use Rattle.image.specs.Image.{unit_of};
@@ -112,7 +111,7 @@ fn go_on(
     at: usize,
 ) -> Fed
     requires { at + most ≤ length out.old }
-    ensures { Takes (heard next (gone_on (unit_of unit.old) (later_outcome (unit_of unit.old) (some event.now)))) out.old at unit.new out.new result }
+    ensures { Takes (heard next (gone_on (unit_of unit.old) (later_outcome (unit_of unit.old) (Some event.now)))) out.old at unit.new out.new result }
 {
     let verdict = turned(unit, event, laid);
     let place = walk::print_verdict(out, at, laid, verdict);
@@ -122,7 +121,7 @@ fn go_on(
 // A later line that is no event.
 fn go_on_refused(unit: &[u8; 618], next: usize, out: &mut [u8], at: usize) -> Fed
     requires { at + 10 ≤ length out.old }
-    ensures { Takes (heard next (gone_on (unit_of unit.now) (later_outcome (unit_of unit.now) none))) out.old at unit.now out.new result }
+    ensures { Takes (heard next (gone_on (unit_of unit.now) (later_outcome (unit_of unit.now) None))) out.old at unit.now out.new result }
 {
     let place = walk::print_two(out, at, 255, 8);
     stated(unit, next, out, place)
@@ -139,7 +138,7 @@ pub(crate) fn heard(
     at: usize,
 ) -> Fed
     requires { at + most ≤ length out.old }
-    ensures { Takes (heard next (answer_to s.phase (unit_of unit.old) (some event.now))) out.old at unit.new out.new result }
+    ensures { Takes (heard next (answer_to s.phase (unit_of unit.old) (Some event.now))) out.old at unit.new out.new result }
 {
     let phase = s.phase;
     match phase {
@@ -161,7 +160,7 @@ pub(crate) fn refused(
     at: usize,
 ) -> Fed
     requires { at + most ≤ length out.old }
-    ensures { Takes (heard next (answer_to s.phase (unit_of unit.old) none)) out.old at unit.new out.new result }
+    ensures { Takes (heard next (answer_to s.phase (unit_of unit.old) None)) out.old at unit.new out.new result }
 {
     let phase = s.phase;
     match phase {

@@ -1,8 +1,8 @@
 -- Each rule of the book keeps the state within its limits. Closed by cases on the state.
+use Rattle.std.specs.Prelude.{None, Option, Some}
 use Prim.Native.Nat.{ℕ, zero, suc, ◌<◌, ◌≤◌}
 use mathlib.Core.Path.{◌≡◌, refl, sym}
 use mathlib.Core.Bool.{Bool, true, false, not}
-use mathlib.Core.Option.{Option, none, some}
 use mathlib.Core.List.{List, [], ◌∷◌, ◌++◌, append-nil}
 use native.Mathlib.Omega.{arith}
 use borrow.Author.Tests.{leb-false, not-true, ne_eqb, eqb-false}
@@ -12,6 +12,8 @@ use Rattle.octets.specs.Choice.{pick, either}
 use Rattle.frame.specs.Writing.{Allowed}
 use Rattle.frame.specs.Reading.{octet}
 use Rattle.book.specs.Sound.{differ}
+use Rattle.book.specs.declared.Refusal.TheVariants.{OtherTerms, Waits, Full}
+use Rattle.book.specs.declared.Refusal.{Refusal}
 use Rattle.book.specs.Book.{Msg, plain, sure, msg, note, Reading, bad, good, Out, State, idle, single, multi, ending, assoc, Setup, Outcome, refused, done, same_terms, settled, ids_of, body_of, waits, full, without, without_in, left_waiting, fall, quiet_fall, vet, bar, bar_confirmed, on_single, on_multi, on_shot, on_vetted, on_request, on_end, late, on_tick, greet, first_contact, on_start, begun, on_reply, on_dat, on_fin, on_fin_ok, on_abort}
 use Rattle.book.specs.View.{reading_in, msg_message, frame_message}
 use Rattle.book.specs.declared.Terms.{Terms}
@@ -20,7 +22,7 @@ use Rattle.sound_laws.proofs.Within.{Within, in_idle, in_single, in_multi, in_en
 
 -- an outcome whose state is within its limits
 pub data Keeps (s : Setup) : Outcome → Type 0 where
-  refuses : {n : ℕ} → Keeps s (refused n)
+  refuses : {n : Refusal} → Keeps s (refused n)
   goes : {st : State} {os : List Out} → Within s st → Keeps s (done st os)
 
 pub kept_state : (s : Setup) (o : Outcome) (st : State) (os : List Out) → Keeps s o → o ≡ done st os → Within s st
@@ -37,8 +39,8 @@ data Fewer : List ℕ → List ℕ → Type 0 where
 fewer_in : (b : Bool) (j : ℕ) (w : List ℕ) (o : Option (List ℕ)) → Fewer (left_waiting w o) w → Fewer (left_waiting (j ∷ w) (without_in b j w o)) (j ∷ w)
 unfolding left_waiting without_in
 fewer_in true j w o f = but_first
-fewer_in false j w none f = all
-fewer_in false j w (some v) f = after f
+fewer_in false j w None f = all
+fewer_in false j w (Some v) f = after f
 
 fewer : (r : ℕ) (w : List ℕ) → Fewer (left_waiting w (without r w)) w
 unfolding left_waiting without
@@ -100,13 +102,13 @@ differ_after i (x ∷ w) e q =
     (differ_after i w (both_right (not (waits x w)) (differ w) e) (either_right (eqb i x) (waits i w) q))
 
 -- what no refusal 3, 4 or 5 says
-free : (x y z : Bool) → ◌≡◌ {A = Option ℕ} (pick x (pick y (some 4) (pick z (some 5) none)) (some 3)) none → (y ≡ false) × (z ≡ false)
+free : (x y z : Bool) → ◌≡◌ {A = Option Refusal} (pick x (pick y (Some Waits) (pick z (Some Full) None)) (Some OtherTerms)) None → (y ≡ false) × (z ≡ false)
 free false y z e = let z : ◌≡◌ {A = ℕ} 0 1 = cc in absurd (omega arith)
 free true true z e = let z : ◌≡◌ {A = ℕ} 0 1 = cc in absurd (omega arith)
 free true false true e = let z : ◌≡◌ {A = ℕ} 0 1 = cc in absurd (omega arith)
 free true false false e = (refl, refl)
 
-listed_after : (a T : Terms) (m : Msg) (w : List ℕ) (t : ℕ) → bar a m (assoc T w t) ≡ none → Listed 8 w → Listed 8 (w ++ ids_of m)
+listed_after : (a T : Terms) (m : Msg) (w : List ℕ) (t : ℕ) → bar a m (assoc T w t) ≡ None → Listed 8 w → Listed 8 (w ++ ids_of m)
 unfolding bar bar_confirmed ids_of full
 listed_after a T (plain i r q b) w t e l = rw (append-nil w) l
 listed_after a T (sure i r q b) w t e l =
@@ -136,7 +138,7 @@ alone : Listed 8 []
 alone = record { few = omega arith; distinct = refl }
 
 -- what a request's frame was read as
-vetted : (c : Bool) (r : Reading) (m : Msg) → vet c r ≡ some m → r ≡ good (msg m) 0
+vetted : (c : Bool) (r : Reading) (m : Msg) → vet c r ≡ Some m → r ≡ good (msg m) 0
 unfolding vet
 vetted c (bad n) m e = let z : ◌≡◌ {A = ℕ} 0 1 = cc in absurd (omega arith)
 vetted c (good f (suc n)) m e = let z : ◌≡◌ {A = ℕ} 0 1 = cc in absurd (omega arith)
@@ -157,14 +159,14 @@ module _ (s : Setup) (p : Positive s) where
   keeps_single a m (ending T w t) h = refuses
   keeps_single a m (assoc T w t) h = refuses
 
-  keeps_multi : (b : Option ℕ) (a : Terms) (m : Msg) (st : State) → bar a m st ≡ b → a.rer ≤ 2 → Keepable m → Within s st → Keeps s (on_multi b a m st)
+  keeps_multi : (b : Option Refusal) (a : Terms) (m : Msg) (st : State) → bar a m st ≡ b → a.rer ≤ 2 → Keepable m → Within s st → Keeps s (on_multi b a m st)
   unfolding on_multi
   keeps_multi b a m idle e h k w = goes (in_multi (settled_rated a h) k p.start)
   keeps_multi b a m (single T w t) e h k x = refuses
   keeps_multi b a m (multi T w t) e h k x = refuses
   keeps_multi b a m (ending T w t) e h k x = refuses
-  keeps_multi (some n) a m (assoc T w t) e h k x = refuses
-  keeps_multi none a m (assoc T w t) e h k (in_assoc r l y) = goes (in_assoc r (listed_after a T m w t e l) p.inactivity)
+  keeps_multi (Some n) a m (assoc T w t) e h k x = refuses
+  keeps_multi None a m (assoc T w t) e h k (in_assoc r l y) = goes (in_assoc r (listed_after a T m w t e l) p.inactivity)
 
   keeps_shot : (b : Bool) (a : Terms) (m : Msg) (st : State) → (body_of m).maintained ≡ b → a.rer ≤ 2 → Allowed (msg_message m) → Within s st → Keeps s (on_shot b a m st)
   unfolding on_shot
@@ -174,8 +176,8 @@ module _ (s : Setup) (p : Positive s) where
   keeps_vetted : (c : Bool) (a : Terms) (f : List ℕ) (o : Option Msg) (st : State) → vet c (reading_in f) ≡ o → ((i : ℕ) → octet f i < 256) → a.rer ≤ 2 → Within s st
       → Keeps s (on_vetted a o st)
   unfolding on_vetted frame_message
-  keeps_vetted c a f none st e x h w = refuses
-  keeps_vetted c a f (some m) st e x h w =
+  keeps_vetted c a f None st e x h w = refuses
+  keeps_vetted c a f (Some m) st e x h w =
       keeps_shot (body_of m).maintained a m st refl h (read_allowed f (msg m) 0 x (vetted c (reading_in f) m e)) w
 
   pub keeps_request : (c : Bool) (a : Terms) (f : List ℕ) (st : State) → ((i : ℕ) → octet f i < 256) → a.rer ≤ 2 → Within s st → Keeps s (on_request c a (reading_in f) st)
@@ -213,10 +215,10 @@ module _ (s : Setup) (p : Positive s) where
 
   keeps_contact : (a : Terms) (f : Option Reading) → Rated a → Keeps s (first_contact s a f)
   unfolding first_contact
-  keeps_contact a none r = goes (in_assoc r alone p.inactivity)
-  keeps_contact a (some (bad n)) r = goes in_idle
-  keeps_contact a (some (good (msg m) e)) r = keeps_greet (body_of m).maintained a e m
-  keeps_contact a (some (good (note k n i q b) e)) r = goes in_idle
+  keeps_contact a None r = goes (in_assoc r alone p.inactivity)
+  keeps_contact a (Some (bad n)) r = goes in_idle
+  keeps_contact a (Some (good (msg m) e)) r = keeps_greet (body_of m).maintained a e m
+  keeps_contact a (Some (good (note k n i q b) e)) r = goes in_idle
 
   pub keeps_start : (a : Terms) (f : Option Reading) (st : State) → Rated a → Keeps s (on_start s a f st)
   unfolding on_start
@@ -228,8 +230,8 @@ module _ (s : Setup) (p : Positive s) where
 
   keeps_begun : (a : Terms) (k : Msg) (f : Option Reading) → Rated a → Keeps s (begun s a k f)
   unfolding begun fall
-  keeps_begun a k none r = goes (in_assoc r (wide k) p.inactivity)
-  keeps_begun a k (some f) r = goes in_idle
+  keeps_begun a k None r = goes (in_assoc r (wide k) p.inactivity)
+  keeps_begun a k (Some f) r = goes in_idle
 
   pub keeps_reply : (b : Bool) (f : Option Reading) (st : State) → Within s st → Keeps s (on_reply s b f st)
   unfolding on_reply fall

@@ -1,9 +1,9 @@
 -- Laws of a line and its line feed: no line feed stands among the pairs of digits at the front, so they are the line's own. Closed by induction on
 -- the characters, two at a time, and by the count of the pairs.
+use Rattle.std.specs.Prelude.{None, Some}
 use Prim.Native.Nat.{ℕ, zero, suc, ◌+◌, ◌*◌, ◌<◌, ◌≤◌}
 use mathlib.Core.Path.{◌≡◌, refl, sym, subst, ◌∙◌}
 use mathlib.Core.Bool.{Bool, true, false}
-use mathlib.Core.Option.{none, some}
 use mathlib.Core.List.{List, [], ◌∷◌}
 use native.Mathlib.Omega.{arith}
 use borrow.Author.Tests.{eqb-true, eq-eqb, le-leb, le-ltb, lt-ltb, ltb-true, leb-true}
@@ -107,7 +107,7 @@ module _ (s : List ℕ) (cap n end : ℕ) (full : cap ≡ 2048) (given : n ≡ l
   all : end ≡ 2 * n → n ≡ length (leading s)
   all e = omega (arith, few, fed, leading_fed s)
 
-  said_octets : end ≡ 2 * n → 0 < n → event_in (take (to_feed s) s) ≡ some (leading s)
+  said_octets : end ≡ 2 * n → 0 < n → event_in (take (to_feed s) s) ≡ Some (leading s)
   unfolding event_in
   said_octets e h =
       let k = all e in
@@ -119,7 +119,7 @@ module _ (s : List ℕ) (cap n end : ℕ) (full : cap ≡ 2048) (given : n ≡ l
         eq-eqb (2 * length (leading s)) (to_feed s) (omega (arith, fed)),
       )
 
-  said_none : (end ≡ 2 * n → n ≡ 0) → event_in (take (to_feed s) s) ≡ none
+  said_none : (end ≡ 2 * n → n ≡ 0) → event_in (take (to_feed s) s) ≡ None
   unfolding event_in
   said_none h = rw (leading_cut s, long) (go (ltb 0 k) refl (leb k 4096) refl (eqb (2 * length (leading s)) k) refl)
     where
@@ -133,7 +133,7 @@ module _ (s : List ℕ) (cap n end : ℕ) (full : cap ≡ 2048) (given : n ≡ l
           omega arith
 
       go : (x : Bool) → x ≡ ltb 0 k → (y : Bool) → y ≡ leb k 4096 → (z : Bool) → z ≡ eqb (2 * length (leading s)) k
-          → pick (both x (both y z)) (some (leading s)) none ≡ none
+          → pick (both x (both y z)) (Some (leading s)) None ≡ None
       go false p y q z r = refl
       go true p false q z r = refl
       go true p true q false r = refl

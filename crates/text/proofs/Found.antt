@@ -1,9 +1,9 @@
 -- The line at the front of an input, by its three answers, and the octets that were put: laws of `line_in`, for those who read lines. Closed by the tests
 -- of a line.
+use Rattle.std.specs.Prelude.{None, Option, Some}
 use Prim.Native.Nat.{ℕ, ◌+◌, ◌*◌, ◌<◌, ◌≤◌}
 use mathlib.Core.Path.{◌≡◌, refl, ap, sym, ◌∙◌}
 use mathlib.Core.Bool.{Bool, true, false}
-use mathlib.Core.Option.{Option, none, some}
 use mathlib.Core.List.{List}
 use native.Mathlib.Omega.{arith}
 use borrow.Author.Tests.{ltb-true, ltb-false, leb-true, eqb-true}
@@ -17,12 +17,12 @@ use Rattle.text.specs.declared.Line.TheVariants.{Octets, Refused, Open}
 use Rattle.text.proofs.FeedLaws.{leading_cut}
 
 -- the octets of a line that is an event
-pub event_is : (line o : List ℕ) → event_in line ≡ some o → (o ≡ leading line) × (length o ≤ 2048)
+pub event_is : (line o : List ℕ) → event_in line ≡ Some o → (o ≡ leading line) × (length o ≤ 2048)
 unfolding event_in
 event_is line o = go (ltb 0 (length line)) (leb (length line) 4096) refl (eqb (2 * length (leading line)) (length line)) refl
   where
     go : (x y : Bool) → y ≡ leb (length line) 4096 → (z : Bool) → z ≡ eqb (2 * length (leading line)) (length line)
-        → pick (both x (both y z)) (some (leading line)) none ≡ some o → (o ≡ leading line) × (length o ≤ 2048)
+        → pick (both x (both y z)) (Some (leading line)) None ≡ Some o → (o ≡ leading line) × (length o ≤ 2048)
     go true true p true q e =
         let k : leading line ≡ o = cc in
         let l = ap length k in
@@ -33,8 +33,8 @@ event_is line o = go (ltb 0 (length line)) (leb (length line) 4096) refl (eqb (2
 
 -- the line's own answer
 pub data Found (i : List ℕ) : Line → Type 0 where
-  octets : (o : List ℕ) → to_feed i < length i → event_in (take (to_feed i) i) ≡ some o → Found i (Octets (length o) (to_feed i + 1))
-  refused : to_feed i < length i → event_in (take (to_feed i) i) ≡ none → Found i (Refused (to_feed i + 1))
+  octets : (o : List ℕ) → to_feed i < length i → event_in (take (to_feed i) i) ≡ Some o → Found i (Octets (length o) (to_feed i + 1))
+  refused : to_feed i < length i → event_in (take (to_feed i) i) ≡ None → Found i (Refused (to_feed i + 1))
   unended : length i ≤ to_feed i → Found i Open
 
 pub found : (i : List ℕ) → Found i (line_in i)
@@ -42,8 +42,8 @@ unfolding line_in said
 found i = go (ltb (to_feed i) (length i)) refl (event_in (take (to_feed i) i)) refl
   where
     go : (x : Bool) → x ≡ ltb (to_feed i) (length i) → (e : Option (List ℕ)) → e ≡ event_in (take (to_feed i) i) → Found i (pick x (said e (to_feed i + 1)) Open)
-    go true p (some o) q = octets o (ltb-true (to_feed i) (length i) (sym p)) (sym q)
-    go true p none q = refused (ltb-true (to_feed i) (length i) (sym p)) (sym q)
+    go true p (Some o) q = octets o (ltb-true (to_feed i) (length i) (sym p)) (sym q)
+    go true p None q = refused (ltb-true (to_feed i) (length i) (sym p)) (sym q)
     go false p e q = unended (ltb-false (to_feed i) (length i) (sym p))
 
 -- the octets that were put are the line's

@@ -1,8 +1,8 @@
 -- What is printed is read back: the digits of octets are a line whose event is those octets. Closed by induction on the octets.
+use Rattle.std.specs.Prelude.{Some}
 use Prim.Native.Nat.{ℕ, suc, ◌+◌, ◌*◌, ◌/◌, ◌%◌, ◌<◌, ◌≤◌}
 use mathlib.Core.Path.{◌≡◌, refl, sym}
 use mathlib.Core.Bool.{Bool, true, false}
-use mathlib.Core.Option.{some}
 use mathlib.Core.List.{List, [], ◌∷◌}
 use native.Mathlib.Omega.{arith}
 use borrow.Author.Tests.{eq-eqb, le-leb, lt-ltb, ltb-true, ltb-false}
@@ -37,7 +37,7 @@ leading_digits (x ∷ xs) h =
     let e : 16 * (x / 16) + x % 16 ≡ x = omega arith in
     rw (value_digit (x / 16) a, value_digit (x % 16) b, lt-ltb (x / 16) 16 a, lt-ltb (x % 16) 16 b, e, leading_digits xs (λ i. h (suc i)))
 
-pub reads_back : (xs : List ℕ) → ((i : ℕ) → get_or xs i 0 < 256) → 0 < length xs → length xs ≤ 2048 → event_in (digits_of xs) ≡ some xs
+pub reads_back : (xs : List ℕ) → ((i : ℕ) → get_or xs i 0 < 256) → 0 < length xs → length xs ≤ 2048 → event_in (digits_of xs) ≡ Some xs
 unfolding event_in
 reads_back xs h n m =
     rw (

@@ -1,6 +1,5 @@
 -- A line of the listing's input. 01, "Events, lines and the listing".
-use Rattle.std.specs.Prelude.{ℕ, suc, ◌+◌, ◌*◌, Bool, List, [], ◌∷◌, eqb, ltb, leb, length, take, drop}
-use Rattle.std.proofs.Math.Option.{Option, none, some}
+use Rattle.std.specs.Prelude.{ℕ, suc, ◌+◌, ◌*◌, Bool, List, [], ◌∷◌, eqb, ltb, leb, length, take, drop, None, Option, Some}
 use Rattle.octets.specs.Choice.{pick, both}
 use Rattle.text.specs.Digits.{value_of}
 use Rattle.text.specs.declared.Line.{Line}
@@ -30,12 +29,12 @@ feed_from s from = from + to_feed (drop from s)
 -- "an empty line, an odd count, a foreign character, a longer line" has no event: "one event a line, at most 4,096 digits"
 unfoldable pub event_in : List ℕ → Option (List ℕ)
 event_in line =
-    pick (both (ltb 0 (length line)) (both (leb (length line) 4096) (eqb (2 * length (leading line)) (length line)))) (some (leading line)) none
+    pick (both (ltb 0 (length line)) (both (leb (length line) 4096) (eqb (2 * length (leading line)) (length line)))) (Some (leading line)) None
 
 -- the answer for a line's event, and the place after its line feed
 unfoldable pub said : Option (List ℕ) → ℕ → Line
-said none next = Refused next
-said (some octets) next = Octets (length octets) next
+said None next = Refused next
+said (Some octets) next = Octets (length octets) next
 
 -- the line at the front of the input
 unfoldable pub line_in : List ℕ → Line

@@ -1,8 +1,8 @@
 -- Laws of the line at the front of the input, as the code finds it; and of the input's end. Closed by the tests of a line.
+use Rattle.std.specs.Prelude.{None, Some}
 use Prim.Native.Nat.{ℕ, suc, ◌+◌, ◌-◌, ◌<◌, ◌≤◌}
 use mathlib.Core.Path.{◌≡◌, refl, ap, sym, ◌∙◌}
 use mathlib.Core.Bool.{Bool, true, false, not}
-use mathlib.Core.Option.{none, some}
 use mathlib.Core.List.{List, [], ◌∷◌}
 use native.Mathlib.Omega.{arith}
 use borrow.Author.Tests.{le-ltb, lt-ltb, ltb-false, eqb-true}
@@ -170,7 +170,7 @@ module _ (s : Reader) (i : List ℕ) (p : false ≡ s.passing) (b : true ≡ beg
       let m : o ≡ leading (drop 6 i) = (event_is (take (to_feed (drop 6 i)) (drop 6 i)) o f).0 ∙ leading_cut (drop 6 i) in
       let d : next ≡ to_feed (drop 6 i) + 1 = cc in
       let e : to_feed i + 1 ≡ next + 6 = omega (arith, cut.feed) in
-      let g : event_in (drop 6 (take (to_feed i) i)) ≡ some o = ap event_in cut.rest ∙ f in
+      let g : event_in (drop 6 (take (to_feed i) i)) ≡ Some o = ap event_in cut.rest ∙ f in
       rw (lt-ltb (to_feed i) (length i) (omega (arith, cut.feed, cut.size)), ← p, bare, g, m, e)
   framed_octets l (refused h f) n next q = let z : ◌≡◌ {A = ℕ} 0 1 = cc in absurd (omega arith)
   framed_octets l (unended h) n next q = let z : ◌≡◌ {A = ℕ} 0 1 = cc in absurd (omega arith)
@@ -180,7 +180,7 @@ module _ (s : Reader) (i : List ℕ) (p : false ≡ s.passing) (b : true ≡ beg
   framed_refused l (refused h f) next q =
       let d : next ≡ to_feed (drop 6 i) + 1 = cc in
       let e : to_feed i + 1 ≡ next + 6 = omega (arith, cut.feed) in
-      let g : event_in (drop 6 (take (to_feed i) i)) ≡ none = ap event_in cut.rest ∙ f in
+      let g : event_in (drop 6 (take (to_feed i) i)) ≡ None = ap event_in cut.rest ∙ f in
       rw (lt-ltb (to_feed i) (length i) (omega (arith, cut.feed, cut.size)), ← p, bare, g, e)
   framed_refused l (octets o h f) next q = let z : ◌≡◌ {A = ℕ} 0 1 = cc in absurd (omega arith)
   framed_refused l (unended h) next q = let z : ◌≡◌ {A = ℕ} 0 1 = cc in absurd (omega arith)

@@ -1,9 +1,9 @@
 -- THE EXPLANATION IN PARTS IS THE WHOLE: however the input is cut into reads, whatever room is lent and however many lines there are, what a run of
 -- the program writes is `explanation` of its input. Closed by induction on the run; each step by what the output still to come is (`whole`).
+use Rattle.std.specs.Prelude.{None, Some}
 use Prim.Native.Nat.{ℕ, zero, suc, ◌+◌, ◌-◌, ◌<◌, ◌≤◌}
 use mathlib.Core.Path.{◌≡◌, refl, ap, sym, subst, ◌∙◌}
 use mathlib.Core.Bool.{Bool, true, false}
-use mathlib.Core.Option.{none, some}
 use mathlib.Core.List.{List, [], ◌∷◌, ◌++◌, append-nil, append_assoc}
 use native.Mathlib.Numerals.{add-one}
 use native.Mathlib.Omega.{arith}
@@ -88,11 +88,11 @@ module _ (m : Bool) where
       go f false k = f (omega arith)
 
 -- more than 4,096 digits are no event
-too_many : (line : List ℕ) → 4096 < length line → event_in line ≡ none
+too_many : (line : List ℕ) → 4096 < length line → event_in line ≡ None
 unfolding event_in
 too_many line h = rw (lt-leb (length line) 4096 h) (never (ltb 0 (length line)))
   where
-    never : (x : Bool) → pick (both x false) (some (leading line)) none ≡ none
+    never : (x : Bool) → pick (both x false) (Some (leading line)) None ≡ None
     never true = refl
     never false = refl
 

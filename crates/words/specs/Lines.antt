@@ -1,7 +1,6 @@
 -- A LINE IN PLAIN WORDS: what `explain` says of a line of a listing's input or output, or of a bare frame. 01, "Events, lines and the listing".
 -- The kinds of input and output never collide, so the first octet says which a line is.
-use Rattle.std.specs.Prelude.{ℕ, ◌+◌, ◌*◌, Bool, true, false, List, [], ◌∷◌, ◌++◌, eqb, leb, length, drop, get_or}
-use Rattle.std.proofs.Math.Option.{Option, none, some}
+use Rattle.std.specs.Prelude.{ℕ, ◌+◌, ◌*◌, Bool, true, false, List, [], ◌∷◌, ◌++◌, eqb, leb, length, drop, get_or, None, Option, Some}
 use Rattle.octets.specs.Choice.{pick, both, either}
 use Rattle.text.specs.Reading.{event_in}
 use Rattle.book.specs.Events.{event_of, terms_in}
@@ -160,8 +159,8 @@ unfoldable pub line_words : List ℕ → List ℕ
 line_words s = kind_words (get_or s 0 0) s
 
 abbrev pub octets_words : Option (List ℕ) → List ℕ
-octets_words none = no_digits
-octets_words (some s) = line_words s
+octets_words None = no_digits
+octets_words (Some s) = line_words s
 
 -- ---- a bare frame
 
@@ -177,8 +176,8 @@ unfoldable pub frame_line : List ℕ → List ℕ
 frame_line s = spelled "frame: " ++ frame_words s
 
 abbrev pub bare_words : Option (List ℕ) → List ℕ
-bare_words none = no_digits
-bare_words (some s) = frame_line s
+bare_words None = no_digits
+bare_words (Some s) = frame_line s
 
 -- ---- the whole
 
