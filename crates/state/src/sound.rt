@@ -137,11 +137,10 @@ fn kept_sound<S: Seen>(u: &S) -> bool
     ensures places { OnTrue result (length (S.unit u.now).kept ≡ 554) }
     ensures octets { OnTrue result ((i : ℕ) → get_or (S.unit u.now).kept i 0 < 256) }
 {
-    u.is_kept_clear()
-        && match u.state() {
-            2 => u.octets() <= 554 && kept_reads(u, u.kept()),
-            _ => u.octets() == 0,
-        }
+    match u.state() {
+        2 => u.octets() <= 554 && u.is_kept_clear(u.octets()) && kept_reads(u, u.kept()),
+        _ => u.octets() == 0 && u.is_kept_clear(0),
+    }
 }
 
 // Whether a unit is sound. The cheapest tests come first; one that isn't sound is done with at the first that fails.
