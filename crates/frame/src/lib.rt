@@ -144,8 +144,10 @@ pub fn user_data(frame: &[u8], header: Header) -> &[u8]
 pub fn one_octet(frame: &[u8], place: Option<Place>) -> Option<u8>
     ensures { result ≡ one_octet (held_at frame.now place) }
 {
-    let held = part(frame, place);
-    if held.len() == 1 { Some(held[0]) } else { None }
+    match part(frame, place) {
+        [x] => Some(*x),
+        _ => None,
+    }
 }
 
 // The value of an identifier or a reference; none of a field that is not two octets of this frame.
@@ -153,11 +155,9 @@ pub fn one_octet(frame: &[u8], place: Option<Place>) -> Option<u8>
 pub fn two_octets(frame: &[u8], place: Option<Place>) -> Option<u16>
     ensures { result ≡ two_octets (held_at frame.now place) }
 {
-    let held = part(frame, place);
-    if held.len() == 2 {
-        Some(u16::from_be_bytes([held[0], held[1]]))
-    } else {
-        None
+    match part(frame, place) {
+        [high, low] => Some(u16::from_be_bytes([*high, *low])),
+        _ => None,
     }
 }
 

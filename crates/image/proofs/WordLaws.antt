@@ -8,7 +8,7 @@ use Rattle.std.proofs.Math.Nat.{zero-div, div-one, div-div-eq-div-mul, pow-suc}
 use borrow.Author.Tests.{eq-eqb, ne_eqb, ltb-false}
 use lib.Dec.{eqb, ltb}
 use lib.ListN.{drop_of_length-le}
-use lib.Seq.{take-add, drop-cons, drop-drop, drop-nil, length-take-le, take_all, get_or-drop}
+use lib.Seq.{drop-cons, drop-drop, drop-nil, length-take-le, take_all, get_or-drop}
 use Rattle.octets.specs.Choice.{both}
 use Rattle.book.specs.Sound.{zeros}
 use Rattle.image.specs.Image.{two, waiting_in, unit_of}

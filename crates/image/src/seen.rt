@@ -210,6 +210,7 @@ impl Seen for [u8; 618] {
         usize::from(two(self, 616))
     }
 
+    #[tactic(auto, unfolding(crate::specs::Image::unit_of), using(crate::proofs::ReaderLaws::id_at, crate::proofs::ReaderLaws::id_none))]
     fn id(&self, i: usize) -> u16 {
         if i < 8 { two(self, 32 + 2 * i) } else { 0 }
     }
@@ -228,10 +229,12 @@ impl Seen for [u8; 618] {
         is_tail_clear(&self[..32], u16::from(self[614]))
     }
 
+    #[tactic(auto, unfolding(crate::specs::Image::unit_of), using(crate::proofs::ReaderLaws::eight_wait, crate::proofs::WordLaws::list_is))]
     fn is_list_clear(&self) -> bool {
         is_tail_clear(&self[32..48], 2 * u16::from(self[615]))
     }
 
+    #[tactic(auto, unfolding(crate::specs::Image::unit_of), using(crate::proofs::WordLaws::free_places))]
     fn is_kept_clear(&self, from: usize) -> bool {
         let kept = &self[48..602];
         clear(&kept[from.min(554)..])

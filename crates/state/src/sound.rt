@@ -35,6 +35,7 @@ fn is_among<S: Seen>(u: &S, from: usize, n: usize, id: u16) -> bool
 }
 
 // No identifier stands twice among the first n.
+#[tactic(auto, using(crate::proofs::Scan::differ_stop, crate::proofs::Scan::differ_on))]
 fn distinct<S: Seen>(u: &S, n: usize) -> bool
     requires { n ≤ length (S.unit u.now).waiting }
     ensures { result ≡ differ (take n (S.unit u.now).waiting) }
