@@ -6,3 +6,4 @@ pub mod Near
 pub mod StoreLaws
 pub mod ReaderLaws
 pub mod OneResult
+pub mod OneReader

@@ -145,14 +145,6 @@ impl Seen for Unit {
     }
 }
 
-// The number in the two octets from a place on, the first one highest.
-fn two(image: &[u8; 618], i: usize) -> u16
-    requires { i + 1 < 618 }
-    ensures { result ≡ two image.now i }
-{
-    u16::from_be_bytes([image[i], image[i + 1]])
-}
-
 // Whether octets are 0 from the place n on, a word of eight at a time: the number that it is, its first octet lowest, shifted by what of n falls into it.
 fn is_tail_clear(octets: &[u8], mut n: u16) -> bool
     requires { length octets.now % 8 ≡ 0 }
@@ -174,48 +166,43 @@ impl Seen for [u8; 618] {
     ghost unit = { unit_of };
 
     fn state(&self) -> u8 {
-        self[602]
+        crate::state(self)
     }
 
     fn start(&self) -> u16 {
-        two(self, 603)
+        crate::start(self)
     }
 
     fn end(&self) -> u16 {
-        two(self, 605)
+        crate::end(self)
     }
 
     fn inactivity(&self) -> u16 {
-        two(self, 607)
+        crate::inactivity(self)
     }
 
     fn elapsed(&self) -> u16 {
-        two(self, 609)
+        crate::elapsed(self)
     }
 
     fn terms(&self) -> Terms {
-        Terms {
-            class: self[611],
-            priority: self[612],
-            rer: self[613],
-        }
+        crate::terms(self)
     }
 
     fn letters(&self) -> usize {
-        usize::from(self[614])
+        crate::letters(self)
     }
 
     fn count(&self) -> usize {
-        usize::from(self[615])
+        crate::count(self)
     }
 
     fn octets(&self) -> usize {
-        usize::from(two(self, 616))
+        crate::octets(self)
     }
 
-    #[tactic(auto, unfolding(crate::specs::Image::unit_of), using(crate::proofs::ReaderLaws::id_at, crate::proofs::ReaderLaws::id_none))]
     fn id(&self, i: usize) -> u16 {
-        if i < 8 { two(self, 32 + 2 * i) } else { 0 }
+        crate::id(self, i)
     }
 
     fn name(&self) -> &[u8] {
