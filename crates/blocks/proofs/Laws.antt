@@ -1,8 +1,7 @@
 -- Laws of octets passed from a reader to a teller. Closed by what is known of lists, and by induction on the calls.
-use Rattle.std.proofs.Common.{◌≡◌, ℕ, ◌+◌, ◌-◌, ◌<◌, ◌≤◌, List, [], ◌∷◌, ◌++◌, length, take, drop, refl, ap, sym, subst, ◌∙◌, arith, append_assoc, append-nil, Option, IfSome, Result, Ok, Err, MatchResult, Bool, true, false}
+use Rattle.std.proofs.Common.{◌≡◌, ℕ, ◌+◌, ◌-◌, ◌≤◌, List, [], ◌++◌, length, take, drop, refl, ap, sym, subst, ◌∙◌, arith, append_assoc, append-nil, Option, IfSome, Result, Ok, Err, MatchResult, Bool, true, false}
 use Rattle.std.proofs.lemmas.List.{take-append-drop, take-append-le, take_at, take_rest, drop-take, length-append, length-take-le, length-drop}
 use Rattle.std.proofs.lemmas.List.Edits.{take-paste}
-use Rattle.std.proofs.lemmas.Slice.{take-put_mid}
 use Rattle.std.proofs.Math.Seq.{paste, take-append-add}
 use Rattle.std.specs.Io.KnownBytes.{Consumes, Keeps, ReadConsumes}
 use Rattle.std.specs.Io.{ReadsAtMost}
@@ -60,8 +59,8 @@ pub reads : {E : Type 0} (a b : Option (List ℕ)) (block part : List ℕ) (held
     × (take (held + n) (put_mid held (length block - held) block part) ≡ take held block ++ read))) (λ _. Keeps a b)
 reads a b block part held (Ok n) w l h k =
     let m : length (put_mid held (length block - held) block part) ≡ held + length part + length (drop (length block - held) (drop held block)) =
-        length-append (take held block) (part ++ drop (length block - held) (drop held block))
-        ∙ omega (arith, length-take-le held block w, length-append part (drop (length block - held) (drop held block))) in
+    length-append (take held block) (part ++ drop (length block - held) (drop held block))
+    ∙ omega (arith, length-take-le held block w, length-append part (drop (length block - held) (drop held block))) in
     (omega (arith, m), (take n part, k.0, read_behind block part held n w l h.0))
 reads a b block part held (Err e) w l h k = k
 
@@ -73,7 +72,7 @@ rest_in_front block after from n a b e =
     let z : 0 + (n - from) ≡ n - from = omega arith in
     let k : from + (n - from) ≡ n = omega arith in
     let p : take (n - from) (paste block 0 (drop from block) (n - from)) ≡ take (n - from) (drop from block) =
-        ap (λ m. take m (paste block 0 (drop from block) (n - from))) (sym z) ∙ take-paste block 0 (drop from block) (n - from) (omega arith) h in
+    ap (λ m. take m (paste block 0 (drop from block) (n - from))) (sym z) ∙ take-paste block 0 (drop from block) (n - from) (omega arith) h in
     ap (take (n - from)) e ∙ p ∙ sym (drop-take from (n - from) block) ∙ ap (λ m. drop from (take m block)) k
 
 -- ---- a turn
@@ -109,8 +108,8 @@ passed_then {a = a} {b = b} {c = c} {front = front} {held = held} {left = left} 
   chain = Chain-append p.chain q.chain;
   consumed = Consumes-trans a b c p.read q.read p.consumed q.consumed;
   whole =
-    sym (append_assoc front p.read q.read) ∙ ap (λ l. l ++ q.read) p.whole ∙ append_assoc p.told held q.read ∙ ap (λ l. p.told ++ l) q.whole
-    ∙ sym (append_assoc p.told q.told left);
+      sym (append_assoc front p.read q.read) ∙ ap (λ l. l ++ q.read) p.whole ∙ append_assoc p.told held q.read ∙ ap (λ l. p.told ++ l) q.whole
+      ∙ sym (append_assoc p.told q.told left);
 }
 
 -- what a turn answers

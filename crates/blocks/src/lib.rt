@@ -84,7 +84,7 @@ fn read_on<I: Read>(input: &mut I, block: &mut [u8], held: usize) -> io::Result<
     requires { held ≤ length block.old }
     ensures { MatchResult result
         (λ n. (held + n ≤ length block.new) × ((read : List ℕ) × Consumes (I.remaining input.old) (I.remaining input.new) read
-            × (take (held + n) block.new ≡ take held block.old ++ read)))
+        × (take (held + n) block.new ≡ take held block.old ++ read)))
         (λ _. Keeps (I.remaining input.old) (I.remaining input.new)) }
 {
     input.read(&mut block[held..])

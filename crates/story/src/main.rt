@@ -86,7 +86,5 @@ fn main(rt: HostRuntime) {
         said: [0; 4096],
         reader: words::fresh(false),
     };
-    blocks::run(
-        &rt, "story", &mut input, &mut story, &mut block, &mut out,
-    );
+    blocks::run(&rt, "story", &mut input, &mut story, &mut block, &mut out);
 }

@@ -1,5 +1,4 @@
 -- `blocks::keep_rest` meets its contract. Closed by what `copy_within` leaves at the front.
-use Rattle.std.proofs.Common.{◌∙◌, ap, sym, arith}
 use Rattle.blocks.proofs.Laws.{rest_in_front}
 use Rattle.blocks.proofs.keep_rest.Goals as goal
 
