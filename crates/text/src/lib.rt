@@ -7,6 +7,8 @@ ghost use Rattle.text.specs.Digits.{value_of};
 ghost use Rattle.text.specs.Reading.{least, leading, feed_from, line_in};
 ghost use Rattle.text.specs.Printing.{digit_of, digits_of, fits, printed_in};
 
+pub mod hearing;
+
 // The next line of the input.
 #[derive(Clone, Copy)]
 pub enum Line {
