@@ -1,7 +1,3 @@
 pub mod WalkLaws
 pub mod AnswerLaws
-pub mod FeedLaws
 pub mod LineLaws
-pub mod Whole
-pub mod Table
-pub mod OneResult

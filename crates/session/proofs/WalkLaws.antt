@@ -7,6 +7,7 @@ use native.Mathlib.Omega.{arith}
 use borrow.Author.Tests.{le-leb}
 use lib.ListN.{length, take, drop, get_or, length-append, length-drop}
 use lib.Seq.{get_or-drop, sets, sets-eq, length-sets, drop-drop, take-append_seam, drop-append_seam, length-take-le}
+use Rattle.std.proofs.lemmas.List.{take_rest}
 use Rattle.octets.specs.Put.{Put}
 use Rattle.octets.proofs.Puts as Puts
 use Rattle.text.specs.Printing.{digits_of, printed, fits, printed_in}
@@ -47,22 +48,21 @@ text-append (l ∷ ls) ks = rw (text-append ls ks) (sym (append_assoc (printed l
 
 -- ---- the lines that lie in a buffer
 
-pub length_is : (s : List ℕ) (from a b : ℕ) → a ≡ get_or s from 0 → b ≡ get_or s (from + 1) 0 → 256 * a + b ≡ length_at (drop from s)
-length_is s from a b x y = rw (get_or-drop from s 0 0, get_or-drop from s 1 0, add-zero from, x, y)
-
 -- some are printed: those that are left make up the whole
-pub record Walked (out₀ : List ℕ) (at : ℕ) (s : List ℕ) (n : ℕ) (out : List ℕ) (place from left : ℕ) : Type 0 where
+pub record Walked (out₀ : List ℕ) (at : ℕ) (s : List ℕ) (n : ℕ) (out : List ℕ) (place : ℕ) (rest : List ℕ) (left : ℕ) : Type 0 where
   pub shown : List ℕ
   pub put : Put out₀ at shown out place
-  pub whole : shown ++ text (lines_in left (drop from s)) ≡ text (lines_in n s)
-  pub inside : from + size_of left (drop from s) ≤ length s
-  pub room : place + 2 * size_of left (drop from s) ≤ length out₀
+  pub whole : shown ++ text (lines_in left rest) ≡ text (lines_in n s)
+  pub inside : size_of left rest ≤ length rest
+  pub room : place + 2 * size_of left rest ≤ length out₀
   pub wide : length out ≡ length out₀
 
-pub walk_start : (out : List ℕ) (at : ℕ) (s : List ℕ) (n : ℕ) → size_of n s ≤ length s → at + 2 * size_of n s ≤ length out → Walked out at s n out at 0 n
-walk_start out at s n h k = record { shown = []; put = Puts.none out at; whole = refl; inside = omega arith; room = omega arith; wide = refl }
+pub walk_start : (out : List ℕ) (at : ℕ) (s : List ℕ) (n : ℕ) → size_of n s ≤ length s → at + 2 * size_of n s ≤ length out → Walked out at s n out at s (n - 0)
+walk_start out at s n h k =
+    let z : n - 0 ≡ n = omega arith in
+    rw z (record { shown = []; put = Puts.none out at; whole = refl; inside = h; room = k; wide = refl })
 
-module _ {out₀ s out : List ℕ} {at n place from left : ℕ} (w : Walked out₀ at s n out place from left) where
+module _ {out₀ s out rest : List ℕ} {at n place left : ℕ} (w : Walked out₀ at s n out place rest left) where
   pub walk_end : left ≤ 0 → Put out₀ at (text (lines_in n s)) out place
   unfolding lines_in text
   walk_end h =
@@ -71,61 +71,58 @@ module _ {out₀ s out : List ℕ} {at n place from left : ℕ} (w : Walked out�
       Puts.put_as (sym (append-nil w.shown) ∙ e) w.put
 
   -- the line at the front of those that are left
-  size_left : 0 < left → size_of left (drop from s) ≡ 2 + length_at (drop from s) + size_of (left - 1) (drop (from + (2 + length_at (drop from s))) s)
+  size_left : 0 < left → size_of left rest ≡ 2 + length_at rest + size_of (left - 1) (drop (2 + length_at rest) rest)
   unfolding size_of
   size_left h = go left h
     where
-      go : (k : ℕ) → 0 < k → size_of k (drop from s) ≡ 2 + length_at (drop from s) + size_of (k - 1) (drop (from + (2 + length_at (drop from s))) s)
+      go : (k : ℕ) → 0 < k → size_of k rest ≡ 2 + length_at rest + size_of (k - 1) (drop (2 + length_at rest) rest)
       go zero l = absurd (omega arith)
-      go (suc k) l = let e : suc k - 1 ≡ k = omega arith in rw (e, drop-drop (2 + length_at (drop from s)) from s)
+      go (suc k) l = let e : suc k - 1 ≡ k = omega arith in rw e
 
-  text_left : 0 < left → text (lines_in left (drop from s))
-      ≡ printed (take (length_at (drop from s)) (drop (from + 2) s)) ++ text (lines_in (left - 1) (drop (from + (2 + length_at (drop from s))) s))
+  text_left : 0 < left → text (lines_in left rest) ≡ printed (take (length_at rest) (drop 2 rest)) ++ text (lines_in (left - 1) (drop (2 + length_at rest) rest))
   unfolding lines_in text
   text_left h = go left h
     where
-      go : (k : ℕ) → 0 < k → text (lines_in k (drop from s))
-          ≡ printed (take (length_at (drop from s)) (drop (from + 2) s)) ++ text (lines_in (k - 1) (drop (from + (2 + length_at (drop from s))) s))
+      go : (k : ℕ) → 0 < k → text (lines_in k rest) ≡ printed (take (length_at rest) (drop 2 rest)) ++ text (lines_in (k - 1) (drop (2 + length_at rest) rest))
       go zero l = absurd (omega arith)
-      go (suc k) l = let e : suc k - 1 ≡ k = omega arith in rw (e, drop-drop (2 + length_at (drop from s)) from s, drop-drop 2 from s)
+      go (suc k) l = let e : suc k - 1 ≡ k = omega arith in rw e
 
-  pub walk_has : 0 < left → from + 1 < length s
+  pub walk_has : 0 < left → 2 ≤ length rest
   walk_has h = omega (arith, w.inside, size_left h)
 
-  module _ (more : 0 < left) (long : ℕ) (is : long ≡ length_at (drop from s)) where
-    pub walk_within : from + 2 + long ≤ length s
+  module _ (more : 0 < left) (long : ℕ) (is : long ≡ length_at rest) where
+    pub walk_within : 2 + long ≤ length rest
     walk_within = omega (arith, w.inside, size_left more, is)
 
-    line_long : length (take long (drop (from + 2) s)) ≡ long
-    line_long = length-take-le long (drop (from + 2) s) (omega (arith, walk_within, length-drop (from + 2) s))
+    line_long : length (take long (drop 2 rest)) ≡ long
+    line_long = length-take-le long (drop 2 rest) (omega (arith, walk_within, length-drop 2 rest))
 
-    pub walk_room : (line : List ℕ) → line ≡ take long (drop (from + 2) s) → place + (2 * length line + 1) ≤ length out
+    pub walk_room : (line : List ℕ) → line ≡ take long (drop 2 rest) → place + (2 * length line + 1) ≤ length out
     walk_room line e =
         let l : length line ≡ long = ap length e ∙ line_long in
         omega (arith, w.room, size_left more, is, w.wide)
 
-    pub walk_step : (line : List ℕ) (r : ℕ) (after : List ℕ) → line ≡ take long (drop (from + 2) s)
-        → r ≡ place + length (printed_in (length out) place line) → after ≡ sets out place (printed_in (length out) place line)
-        → Walked out₀ at s n after r (from + 2 + long) (left - 1)
-    walk_step line r after e p q =
+    pub walk_step : (line next : List ℕ) (r : ℕ) (after : List ℕ) → line ≡ take long (take (length rest - 2) (drop 2 rest))
+        → next ≡ drop long (take (length rest - 2) (drop 2 rest)) → r ≡ place + length (printed_in (length out) place line) → after ≡ sets out place (printed_in (length out) place line)
+        → (k : ℕ) → k ≡ left - 1 → Walked out₀ at s n after r next k
+    walk_step line next r after e₀ f₀ p q m i =
+        let b : take (length rest - 2) (drop 2 rest) ≡ drop 2 rest = take_rest rest 2 in
+        let e : line ≡ take long (drop 2 rest) = e₀ ∙ ap (take long) b in
+        let f : next ≡ drop (2 + long) rest = f₀ ∙ ap (drop long) b ∙ drop-drop long 2 rest in
         let l : length line ≡ long = ap length e ∙ line_long in
         let k = print_put out line place r after (walk_room line e) p q in
-        let m : r ≡ place + (2 * long + 1) = omega (arith, k.place, printed_long line) in
-        let f : from + (2 + length_at (drop from s)) ≡ from + 2 + long = omega (arith, is) in
-        let z : size_of left (drop from s) ≡ 2 + long + size_of (left - 1) (drop (from + 2 + long) s) = rw (f, ← is) at (size_left more) in
-        let t : text (lines_in left (drop from s)) ≡ printed line ++ text (lines_in (left - 1) (drop (from + 2 + long) s)) = rw (f, ← is, ← e) at (text_left more) in
-        record {
+        let j : r ≡ place + (2 * long + 1) = omega (arith, k.place, printed_long line) in
+        let z : size_of left rest ≡ 2 + long + size_of (left - 1) next = rw (← is, ← f) at (size_left more) in
+        let t : text (lines_in left rest) ≡ printed line ++ text (lines_in (left - 1) next) = rw (← is, ← f, ← e) at (text_left more) in
+        let d : length next ≡ length rest - (2 + long) = ap length f ∙ length-drop (2 + long) rest in
+        rw i (record {
           shown = w.shown ++ printed line;
           put = Puts.then w.put k;
           whole = append_assoc w.shown (printed line) _ ∙ ap (λ x. w.shown ++ x) (sym t) ∙ w.whole;
           inside = omega (arith, w.inside);
           room = omega (arith, w.room);
           wide = ap length q ∙ length-sets out place (printed_in (length out) place line) ∙ w.wide;
-        }
-
--- the part of the buffer that is printed
-pub line_as : (s : List ℕ) (from long : ℕ) → take (from + 2 + long - (from + 2)) (drop (from + 2) s) ≡ take long (drop (from + 2) s)
-line_as s from long = let e : from + 2 + long - (from + 2) ≡ long = omega arith in rw e
+        })
 
 -- ---- the lines that were laid lie there
 
@@ -173,8 +170,11 @@ text_short (suc n) s =
 -- ---- a unit's answer
 
 module _ (v : Verdict) (s : List ℕ) {n k : ℕ} (is : v ≡ Done n k) (size : verdict_size v s ≤ 1024) where
-  pub verdict_size_lem : size_of n s ≤ 1024
+  verdict_size_lem : size_of n s ≤ 1024
   verdict_size_lem = rw is at size
+
+  pub verdict_room : (room at : ℕ) → verdict_size v s ≤ length s → at + 2048 ≤ room → (size_of n s ≤ length s) × (at + 2 * size_of n s ≤ room)
+  verdict_room room at h k = (rw is at h, omega (arith, verdict_size_lem))
 
   pub verdict_laid : {out after : List ℕ} {at r : ℕ} → Put out at (text (lines_in n s)) after r
       → (Put out at (text (verdict_lines v s)) after r) × (r ≤ at + 2048)

@@ -9,10 +9,10 @@ pub data Run : Standing → (held input output : List ℕ) → Type 0 where
   -- a block of any length is read
   read : {s : Standing} {held input output : List ℕ} (block : List ℕ) → Run s (held ++ block) input output → Run s held (block ++ input) output
   -- `feed`, with any room; what it writes is written
-  fed : {s : Standing} {held input output : List ℕ} (room : ℕ) → Run (feeding (length held) room s held).session (drop (feeding (length held) room s held).taken held) input output
+  fed : {s : Standing} {held input output : List ℕ} (room : ℕ) → Run (feeding (length held) room s held).reader (drop (feeding (length held) room s held).taken held) input output
       → Run s held input ((feeding (length held) room s held).written ++ output)
   -- nothing is left to be read, and `feed` takes no more: `finish`, and the end
   finished : {s : Standing} {held : List ℕ} (room last : ℕ) → most ≤ room → (feeding (length held) room s held).taken ≡ 0 → most ≤ last
       → Run s held [] (finishing last s held)
   -- the session has stopped: no more is read
-  stopped : {s : Standing} {held input : List ℕ} → s.phase ≡ Stopped → Run s held input []
+  stopped : {s : Standing} {held input : List ℕ} → s.state.phase ≡ Stopped → Run s held input []
