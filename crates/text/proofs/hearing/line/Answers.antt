@@ -1,5 +1,5 @@
 -- `text::hearing::line` meets its contract. Closed by HearingLaws, one law for each way out.
-use mathlib.Core.Path.{refl, sym}
+use mathlib.Core.Path.{sym}
 use Rattle.text.proofs.HearingLaws.{line_ends, line_open}
 use Rattle.text.proofs.hearing.line.Goals as goal
 
