@@ -178,10 +178,10 @@ module _ {out image after : List ℕ} {at : ℕ} {r : Said} where
   unfolding answer_to
   answer_event p u e x v laid q i f h = rw (q, i) (says_as (rw (f.lines, f.unit)) h)
 
-  pub answer_none : (p : Phase) (image : List ℕ) (e : Option (Bor (List ℕ))) → p ≡ Running → e ≡ None
+  pub answer_none : (p : Phase) (e : Option (Bor (List ℕ))) → p ≡ Running → e ≡ None
       → Says (stated (unit_of image) (refusal_line 8 ∷ [])) out at image after r → Says (answer_to p (unit_of image) (held_in e)) out at image after r
   unfolding answer_to turn_of
-  answer_none p image e q i h = rw (q, i) h
+  answer_none p e q i h = rw (q, i) h
 
 pub answer_stopped : (p : Phase) (image : List ℕ) (e : Option (List ℕ)) (out : List ℕ) {at : ℕ} → p ≡ Stopped
     → Says (answer_to p (unit_of image) e) out at image out (record { phase = p; end = at })

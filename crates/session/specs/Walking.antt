@@ -1,5 +1,5 @@
 -- The lines that lie in a buffer, each as a 2-octet length and its octets. For the functions of this crate; no public contract speaks of it.
-use Rattle.std.specs.Prelude.{ℕ, zero, suc, ◌+◌, ◌*◌, ◌≤◌, ◌≡◌, List, [], ◌∷◌, ◌++◌, take, drop, get_or, None, Option, Some}
+use Rattle.std.specs.Prelude.{ℕ, zero, suc, ◌+◌, ◌*◌, ◌≤◌, ◌<◌, ◌≡◌, List, [], ◌∷◌, ◌++◌, take, drop, get_or, None, Option, Some}
 use Rattle.std.specs.Borrow.{Bor}
 use Rattle.octets.specs.Put.{Put}
 use Rattle.book.specs.declared.Verdict.{Verdict}
@@ -63,3 +63,7 @@ stated u ls = record { phase = Running; unit = u; lines = ls ++ (state_line u �
 abbrev pub held_in : Option (Bor (List ℕ)) → Option (List ℕ)
 held_in None = None
 held_in (Some e) = Some e.now
+
+-- what the type of a block's octets says of them
+pub record Octets (block : List ℕ) : Type 0 where
+  pub small : (i : ℕ) → get_or block i 0 < 256

@@ -2,11 +2,12 @@
 // session's unit, 618 octets, and lends it. The lines are heard one after the other by text's reader; here is what is answered to each.
 #![tactic(auto)]
 
-ghost use Rattle.std.specs.Prelude.{◌≡◌, ◌≤◌, length};
+ghost use Rattle.std.specs.Prelude.{◌≡◌, ◌≤◌, IfSome, length, take};
 ghost use Rattle.octets.specs.Put.{Put};
+ghost use Rattle.std.specs.Option.{option_map};
+ghost use Rattle.session.specs.Walking.{held_in, Octets};
 ghost use Rattle.session.specs.Feeding.{State, state_of, standing, answer, unheard, longest, most, Feeds, finishing};
 
-use text::Line;
 use text::hearing;
 use text::hearing::{Hearer, Reader};
 
@@ -32,6 +33,17 @@ pub type Fed = hearing::Fed<Session>;
 pub struct Desk {
     event: [u8; 2048],
     laid: [u8; 1024],
+}
+
+// The octets of an event, where a line has some.
+fn front(octets: &[u8; 2048], n: Option<usize>) -> Option<&[u8]>
+    requires { IfSome n (λ k. k ≤ 2048) }
+    ensures { held_in result ≡ option_map (λ k. take k octets.now) n }
+{
+    match n {
+        Some(n) => Some(&octets[..n]),
+        None => None,
+    }
 }
 
 impl Hearer for Phase {
@@ -60,15 +72,12 @@ impl Hearer for Phase {
         out: &mut [u8],
         at: usize,
     ) -> Option<hearing::Fed<Phase>> {
-        let (event, next) = match text::line_in(input, &mut desk.event) {
-            Line::Octets(n, next) => (Some(&desk.event[..n]), next),
-            Line::Refused(next) => (None, next),
-            Line::Open => return None,
-        };
+        let line = text::line_in(input, &mut desk.event)?;
+        let event = front(&desk.event, line.octets);
         let said = answers::answer(self, unit, event, &mut desk.laid, out, at);
         Some(hearing::Fed {
             state: said.phase,
-            taken: next,
+            taken: line.next,
             written: said.end,
         })
     }
@@ -99,6 +108,12 @@ pub fn fresh() -> Session
     }
 }
 
+// The octets of a block are octets: the check knows it of a slice, and of an array only as it was lent, not as a callee left it. Nothing is done.
+fn known(block: &[u8])
+    ensures { Octets block.now }
+{
+}
+
 // Hands a session a part of its input, and prints at the front of `out`. What is left of the input is an open line, or waits for room in `out`.
 pub fn feed(s: Session, unit: &mut [u8; 618], input: &[u8], out: &mut [u8]) -> Fed
     ensures { Feeds (standing s unit.old) input.now out.old result unit.new out.new }
@@ -107,7 +122,9 @@ pub fn feed(s: Session, unit: &mut [u8; 618], input: &[u8], out: &mut [u8]) -> F
         event: [0; 2048],
         laid: [0; 1024],
     };
-    hearing::feed(s, unit, &mut desk, input, out)
+    let fed = hearing::feed(s, unit, &mut desk, input, out);
+    known(unit);
+    fed
 }
 
 // The end of the input, of which `held` is left: prints at the front of `out`, and answers how many characters were written.
