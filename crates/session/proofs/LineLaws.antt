@@ -83,10 +83,7 @@ module _ (s : Standing) (held out : List ℕ) where
   finish_listed left h e p k = (rw (le-ltb (length out) most h) (rw e at p), omega arith)
 
 pub left_passing : (p left x : Bool) → p ≡ true → left ≡ p → left ≡ either p x
-left_passing true left x e q = q
-left_passing false left x e q = absurd (cc)
+left_passing p left x e q = rw e (q ∙ e)
 
-pub left_held : (p left b : Bool) (held : List ℕ) → p ≡ false → b ≡ (length held == 0) → left ≡ not b → left ≡ either p (ltb 0 (length held))
-left_held true left b held e f q = absurd (cc)
-left_held false left b [] e f q = q ∙ ap not f
-left_held false left b (x ∷ held) e f q = let k : (length (x ∷ held) == 0) ≡ false = ne_eqb (length (x ∷ held)) 0 (λ z. omega arith) in q ∙ ap not (f ∙ k) ∙ sym (lt-ltb 0 (length (x ∷ held)) (omega arith))
+pub left_held : (p left x : Bool) → p ≡ false → left ≡ x → left ≡ either p x
+left_held p left x e q = rw e q

@@ -48,6 +48,7 @@ fn front(octets: &[u8; 2048], n: Option<usize>) -> Option<&[u8]>
 
 impl Hearer for Phase {
     type Unit = [u8; 618];
+
     type Desk = Desk;
 
     const LONGEST: usize = 4096;
@@ -111,8 +112,7 @@ pub fn fresh() -> Session
 // The octets of a block are octets: the check knows it of a slice, and of an array only as it was lent, not as a callee left it. Nothing is done.
 fn known(block: &[u8])
     ensures { Octets block.now }
-{
-}
+{}
 
 // Hands a session a part of its input, and prints at the front of `out`. What is left of the input is an open line, or waits for room in `out`.
 pub fn feed(s: Session, unit: &mut [u8; 618], input: &[u8], out: &mut [u8]) -> Fed
@@ -134,5 +134,5 @@ pub fn finish(s: Session, unit: &[u8; 618], held: &[u8], out: &mut [u8]) -> usiz
     if out.len() < Phase::MOST {
         return 0;
     }
-    answers::at_end(s.hearer, s.passing || !held.is_empty(), unit, out)
+    answers::at_end(s.hearer, s.passing || 0 < held.len(), unit, out)
 }

@@ -12,6 +12,6 @@ returns c =
     let a = c.args in
     finish_listed (standing a.s a.unit.now) a.held.now a.out.now c.if-s.at_end c.if-out-lt-MOST.false
     (elim c.if-s.branch [
-      then-s w ↦ left_passing _ _ _ w.if-s.true w.at_end-is
-    | else-s w ↦ left_held _ _ _ a.held.now w.if-s.false w.is_empty.ensures w.at_end-is
+      | then-s w ↦ left_passing _ _ _ w.if-s.true w.at_end-is
+      | else-s w ↦ left_held _ _ _ w.if-s.false w.at_end-is
     ]) c.at_end.ensures.0 c.at_end.ensures.1

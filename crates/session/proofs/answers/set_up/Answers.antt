@@ -13,6 +13,6 @@ returns-in-0 c = setup_is c.args.event.now _ _ _ c.told-unit c.in-0.len_at_least
 pub returns-in_default : goal.returns-in_default
 returns-in_default c =
     elim c.in_default.branch [
-      in_default-via-then-event-lt7 w ↦ begins_as (setup_short _ (search rules)) (setup_none c.told-unit c.setup-in_default.ensures)
-    | in_default-via-else-event-lt7+in_default-1 w ↦ begins_as (setup_other _ (search rules) (λ e. omega arith)) (setup_none c.told-unit c.setup-in_default.ensures)
+      | in_default-via-then-event-lt7 w ↦ begins_as (setup_short _ (search rules)) (setup_none c.told-unit c.setup-in_default.ensures)
+      | in_default-via-else-event-lt7+in_default-1 w ↦ begins_as (setup_other _ (search rules) (λ e. omega arith)) (setup_none c.told-unit c.setup-in_default.ensures)
     ]
