@@ -7,17 +7,12 @@ use Rattle.frame.specs.declared.OneOctet.{OneOctet}
 use Rattle.frame.specs.declared.OneOctet.TheVariants.{NoOctet, Octet}
 use Rattle.frame.specs.Decoding.{octet_in}
 use Rattle.said.specs.declared.Note.{Note}
-use Rattle.said.proofs.bit_of.Reads as bit-of
 use Rattle.said.proofs.before_name.Reads as before-name
 use Rattle.said.proofs.result_of.Reads as result_of
 use Rattle.said.proofs.ack_of.Reads as ack-of
 use Rattle.said.proofs.settle.Reads as settle
-use Rattle.said.proofs.alike.Reads as alike
 use Rattle.said.proofs.after.Reads as after
 use Rattle.said.proofs.name_of.Reads as name_of
-
-pub one_bit_of : Leaves bit-of.Post (λ κs r e. r)
-one_bit_of κs a x y e f p q = p.0 ∙ sym q.0
 
 pub one_before_name : Leaves before-name.Post (λ κs r e. r)
 one_before_name κs a x y e f p q = p.0 ∙ sym q.0
@@ -43,9 +38,6 @@ one_ack_of κs a x y e f p q =
 
 pub one_settle : Leaves settle.Post (λ κs r e. r)
 one_settle κs a x y e f p q = p ∙ sym q
-
-pub one_alike : Leaves alike.Post (λ κs r e. r)
-one_alike κs a x y e f p q = p ∙ sym q
 
 pub one_after : Leaves after.Post (λ κs r e. r.now)
 one_after κs a x y e f p q = p ∙ sym q

@@ -8,7 +8,6 @@ ghost use Rattle.book.specs.View.{needed};
 use frame::TwoOctets;
 
 pub mod events;
-pub mod seen;
 pub mod sound;
 pub mod turns;
 pub mod waiting;
