@@ -1,5 +1,5 @@
 -- Laws of a line's answer: the room of what a unit lays, and the setup of a first line. Closed by cases on the outcome, and by the tests.
-use Rattle.std.specs.Prelude.{None, Option, Some}
+use Rattle.std.specs.Prelude.{None, Option, Some, Result, Ok, Err}
 use Prim.Native.Nat.{ℕ, ◌+◌, ◌-◌, ◌<◌, ◌≤◌}
 use mathlib.Core.Path.{◌≡◌, refl, ap, sym, ◌∙◌}
 use mathlib.Core.Bool.{Bool, true, false}
@@ -19,8 +19,10 @@ use Rattle.book.specs.Sound.{sound_of, within_limits}
 use Rattle.book.specs.Step.{step, octets_of, turn_of, set_up}
 use Rattle.book.specs.declared.Unit.{Unit as Value}
 use Rattle.book.specs.declared.Turn.{Turn}
-use Rattle.book.specs.declared.Verdict.{Verdict}
-use Rattle.book.specs.declared.Verdict.TheVariants.{Done, Refused}
+use Rattle.book.specs.Refusals.{refusal_number}
+use Rattle.book.specs.declared.Done.{Done}
+use Rattle.book.specs.declared.Refusal.{Refusal}
+use Rattle.book.specs.declared.Refusal.TheVariants.{BadSetup, NoEvent, Unsound}
 use Rattle.image.specs.Image.{unit_of}
 use Rattle.image.specs.Answer.{Handled, SetsUp}
 use Rattle.image_laws.proofs.GoesOn as GoesOn
@@ -39,11 +41,11 @@ use Rattle.session.proofs.WalkLaws.{shows, text_one, text-append, print_put, pri
 
 -- ---- room
 
-unsound : (u : Value) (ev : List ℕ) (o : Outcome) → sound_of u ≡ false → step 1024 u ev ≡ o → o ≡ refused 9
+unsound : (u : Value) (ev : List ℕ) (o : Outcome) → sound_of u ≡ false → step 1024 u ev ≡ o → o ≡ refused Unsound
 unfolding step
 unsound u ev o e q = sym q ∙ rw e
 
-apart : {n : ℕ} {st : State} {os : List Out} → done st os ≡ refused n → ⊥
+apart : {n : Refusal} {st : State} {os : List Out} → done st os ≡ refused n → ⊥
 apart e = let z : ◌≡◌ {A = ℕ} 0 1 = cc in absurd (omega arith)
 
 -- what any unit lays for any event has room
@@ -93,19 +95,19 @@ setup_from : (e : Option (Bor (List ℕ))) (d : Bor (List ℕ)) → d.now ≡ []
 setup_from None d h = ap setup_in h ∙ sym (setup_short [] (omega arith))
 setup_from (Some s) d h = refl
 
-pub begins_as : {t k : Turn} {r : Verdict} {image : List ℕ} → t ≡ k → Begins t r image → Begins k r image
+pub begins_as : {t k : Turn} {r : Result Done Refusal} {image : List ℕ} → t ≡ k → Begins t r image → Begins k r image
 begins_as e h = rw e at h
 
 -- what setup writes, over an image of 618 octets
-begins : (a b c : ℕ) (name image : List ℕ) {r : Verdict} {after : List ℕ} → length image ≡ 618 → SetsUp a b c name image r after
+begins : (a b c : ℕ) (name image : List ℕ) {r : Result Done Refusal} {after : List ℕ} → length image ≡ 618 → SetsUp a b c name image r after
     → Begins (set_up a b c name) r after
 begins a b c name image w h = record { verdict = set_verdict a b c name image w h; unit = set_unit a b c name image w h }
 
-pub setup_none : {image after : List ℕ} {r : Verdict} → length image ≡ 618 → SetsUp 0 0 0 [] image r after → Begins no_setup r after
+pub setup_none : {image after : List ℕ} {r : Result Done Refusal} → length image ≡ 618 → SetsUp 0 0 0 [] image r after → Begins no_setup r after
 unfolding set_up within_limits
 setup_none {image} w h = begins 0 0 0 [] image w h
 
-pub setup_is : (s : List ℕ) (a b c : ℕ) {image after : List ℕ} {r : Verdict} → length image ≡ 618 → 7 ≤ length s → get_or s 0 0 ≡ 0
+pub setup_is : (s : List ℕ) (a b c : ℕ) {image after : List ℕ} {r : Result Done Refusal} → length image ≡ 618 → 7 ≤ length s → get_or s 0 0 ≡ 0
     → a ≡ two s 1 → b ≡ two s 3 → c ≡ two s 5 → SetsUp a b c (take (length s - 7) (drop 7 s)) image r after → Begins (setup_in s) r after
 setup_is s a b c {image} w h k x y z e = begins_as (setup_as s a b c h k x y z) (begins a b c (take (length s - 7) (drop 7 s)) image w e)
 
@@ -117,6 +119,11 @@ pub print_two : (out : List ℕ) (at kind number r : ℕ) (after : List ℕ) →
 print_two out at k n r after h p q =
     let e = print_put out (k ∷ n ∷ []) at r after (omega arith) p q in
     (Puts.put_as (sym (text_one (k ∷ n ∷ []))) e, omega (arith, e.place, printed_long (k ∷ n ∷ [])))
+
+-- a refusal, by its number
+pub print_refusal : {out after : List ℕ} {at n end : ℕ} (r : Refusal) → n ≡ refusal_number r → (Put out at (text ((0xff ∷ n ∷ []) ∷ [])) after end) × (end ≡ at + 5)
+    → (Put out at (text (refusal_line r ∷ [])) after end) × (end ≡ at + 5)
+print_refusal r e p = rw e at p
 
 -- two goes of printing are one
 pub shown_then : (a b : List (List ℕ)) {b0 b1 b2 : List ℕ} {i j k : ℕ} → Put b0 i (text a) b1 j → Put b1 j (text b) b2 k → Put b0 i (text (a ++ b)) b2 k
@@ -141,7 +148,7 @@ says_on {image = image} ls p h t = record {
 }
 
 -- a unit's turn at an event
-pub handled : (image ev before : List ℕ) {image' after : List ℕ} {r : Verdict} → length image ≡ 618 → ((i : ℕ) → octet image i < 256)
+pub handled : (image ev before : List ℕ) {image' after : List ℕ} {r : Result Done Refusal} → length image ≡ 618 → ((i : ℕ) → octet image i < 256)
     → ((i : ℕ) → octet ev i < 256) → length before ≡ 1024 → Handled image ev before r image' after
     → Lays (unit_of image) (step 1024 (unit_of image) ev) r image' after
 handled image ev before {image'} {after} {r} e small event w t =
@@ -158,28 +165,28 @@ says_as : {a b : Answer} {out image after : List ℕ} {at : ℕ} {r : Said} → 
 says_as e h = rw e h
 
 module _ {out image after : List ℕ} {at : ℕ} {r : Said} where
-  pub begin_good : (v : Verdict) {a b : ℕ} → v ≡ Done a b → Says (stated (unit_of image) []) out at image after r → Says (begun (unit_of image) v) out at image after r
+  pub begin_good : (v : Result Done Refusal) {d : Done} → v ≡ Ok d → Says (stated (unit_of image) []) out at image after r → Says (begun (unit_of image) v) out at image after r
   begin_good v e t = rw e t
 
-  pub begin_refused : (v : Verdict) {k end : ℕ} → v ≡ Refused k → Put out at (text (refusal_line k ∷ [])) after end → end ≡ at + 5
+  pub begin_refused : (v : Result Done Refusal) {k : Refusal} {end : ℕ} → v ≡ Err k → Put out at (text (refusal_line k ∷ [])) after end → end ≡ at + 5
       → r ≡ record { phase = Stopped; end = end } → Says (begun (unit_of image) v) out at image after r
   begin_refused v e p q f = rw (e, f) (record { phase = refl; unit = refl; put = p; small = omega arith })
 
-  pub answer_first : (p : Phase) (u : Value) (e : Option (Bor (List ℕ))) (d x : Bor (List ℕ)) (v : Verdict) → p ≡ First → d.now ≡ [] → x ≡ unwrap_or e d
+  pub answer_first : (p : Phase) (u : Value) (e : Option (Bor (List ℕ))) (d x : Bor (List ℕ)) (v : Result Done Refusal) → p ≡ First → d.now ≡ [] → x ≡ unwrap_or e d
       → Begins (setup_in x.now) v image → Says (begun (unit_of image) v) out at image after r → Says (answer_to p u (held_in e)) out at image after r
   unfolding answer_to
   answer_first p u e d x v q z y f h =
       let t : setup_in x.now ≡ first_turn (held_in e) = ap (λ (b : Bor (List ℕ)). setup_in b.now) y ∙ setup_from e d z in
       rw q (says_as (rw (← t, f.unit, f.verdict)) h)
 
-  pub answer_event : (p : Phase) (u : Value) (e : Option (Bor (List ℕ))) (x : Bor (List ℕ)) (v : Verdict) (laid : List ℕ) → p ≡ Running → e ≡ Some x
+  pub answer_event : (p : Phase) (u : Value) (e : Option (Bor (List ℕ))) (x : Bor (List ℕ)) (v : Result Done Refusal) (laid : List ℕ) → p ≡ Running → e ≡ Some x
       → Lays u (step 1024 u x.now) v image laid → Says (stated (unit_of image) (verdict_lines v laid)) out at image after r
       → Says (answer_to p u (held_in e)) out at image after r
   unfolding answer_to
   answer_event p u e x v laid q i f h = rw (q, i) (says_as (rw (f.lines, f.unit)) h)
 
   pub answer_none : (p : Phase) (e : Option (Bor (List ℕ))) → p ≡ Running → e ≡ None
-      → Says (stated (unit_of image) (refusal_line 8 ∷ [])) out at image after r → Says (answer_to p (unit_of image) (held_in e)) out at image after r
+      → Says (stated (unit_of image) (refusal_line NoEvent ∷ [])) out at image after r → Says (answer_to p (unit_of image) (held_in e)) out at image after r
   unfolding answer_to turn_of
   answer_none p e q i h = rw (q, i) h
 
@@ -190,16 +197,16 @@ answer_stopped p image e out q = rw q (record { phase = refl; unit = refl; put =
 
 -- ---- the input's end, by phase
 
-pub end_first : {out after : List ℕ} {r : ℕ} (p : Phase) (left : Bool) (u : Value) → p ≡ First → Put out 0 (text (refusal_line 7 ∷ [])) after r → r ≡ 0 + 5
+pub end_first : {out after : List ℕ} {r : ℕ} (p : Phase) (left : Bool) (u : Value) → p ≡ First → Put out 0 (text (refusal_line BadSetup ∷ [])) after r → r ≡ 0 + 5
     → (Put out 0 (listed p u (last_line left)) after r) × (r ≤ most)
 unfolding listed answer_to
-end_first p true u e h k = (rw (e, append-nil (text (refusal_line 7 ∷ []))) h, omega arith)
+end_first p true u e h k = (rw (e, append-nil (text (refusal_line BadSetup ∷ []))) h, omega arith)
 end_first p false u e h k = (rw e h, omega arith)
 
 pub end_open : {out image after : List ℕ} {r : Said} (p : Phase) (left : Bool) → p ≡ Running → left ≡ true
-    → Says (stated (unit_of image) (refusal_line 8 ∷ [])) out 0 image after r → (Put out 0 (listed p (unit_of image) (last_line left)) after r.end) × (r.end ≤ most)
+    → Says (stated (unit_of image) (refusal_line NoEvent ∷ [])) out 0 image after r → (Put out 0 (listed p (unit_of image) (last_line left)) after r.end) × (r.end ≤ most)
 unfolding listed answer_to turn_of
-end_open {image = image} p left e f h = (rw (e, f, append-nil (text (stated (unit_of image) (refusal_line 8 ∷ [])).lines)) h.put, omega (arith, h.small))
+end_open {image = image} p left e f h = (rw (e, f, append-nil (text (stated (unit_of image) (refusal_line NoEvent ∷ [])).lines)) h.put, omega (arith, h.small))
 
 pub end_shut : (out : List ℕ) (p : Phase) (left : Bool) (u : Value) → p ≡ Running → left ≡ false → (Put out 0 (listed p u (last_line left)) out 0) × (0 ≤ most)
 unfolding listed

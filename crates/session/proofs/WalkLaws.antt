@@ -1,4 +1,5 @@
 -- Laws of what is printed: a line with room, the lines that lie in a buffer, and a unit's answer. Closed by induction on the lines.
+use Rattle.std.specs.Prelude.{Result, Ok, Err}
 use Prim.Native.Nat.{ℕ, zero, suc, ◌+◌, ◌-◌, ◌*◌, ◌/◌, ◌%◌, ◌<◌, ◌≤◌}
 use mathlib.Core.Path.{◌≡◌, refl, ap, sym, ◌∙◌}
 use mathlib.Core.List.{List, [], ◌∷◌, ◌++◌, map, append-nil, append_assoc}
@@ -16,8 +17,8 @@ use Rattle.book.specs.Book.{Outcome, refused, done, Out}
 use Rattle.book.specs.Lines.{line_of, laid, laid_out}
 use Rattle.book.specs.Step.{turn_of, octets_of}
 use Rattle.book.specs.declared.Unit.{Unit as Value}
-use Rattle.book.specs.declared.Verdict.{Verdict}
-use Rattle.book.specs.declared.Verdict.TheVariants.{Done, Refused}
+use Rattle.book.specs.declared.Done.{Done}
+use Rattle.book.specs.declared.Refusal.{Refusal}
 use Rattle.image.specs.Image.{unit_of}
 use Rattle.session.specs.Listing.{text, refusal_line}
 use Rattle.session.specs.Walking.{length_at, lines_in, size_of, verdict_lines, verdict_size, Lays}
@@ -169,18 +170,18 @@ text_short (suc n) s =
 
 -- ---- a unit's answer
 
-module _ (v : Verdict) (s : List ℕ) {n k : ℕ} (is : v ≡ Done n k) (size : verdict_size v s ≤ 1024) where
-  verdict_size_lem : size_of n s ≤ 1024
+module _ (v : Result Done Refusal) (s : List ℕ) (d : Done) (is : v ≡ Ok d) (size : verdict_size v s ≤ 1024) where
+  verdict_size_lem : size_of d.lines s ≤ 1024
   verdict_size_lem = rw is at size
 
-  pub verdict_room : (room at : ℕ) → verdict_size v s ≤ length s → at + 2048 ≤ room → (size_of n s ≤ length s) × (at + 2 * size_of n s ≤ room)
+  pub verdict_room : (room at : ℕ) → verdict_size v s ≤ length s → at + 2048 ≤ room → (size_of d.lines s ≤ length s) × (at + 2 * size_of d.lines s ≤ room)
   verdict_room room at h k = (rw is at h, omega (arith, verdict_size_lem))
 
-  pub verdict_laid : {out after : List ℕ} {at r : ℕ} → Put out at (text (lines_in n s)) after r
+  pub verdict_laid : {out after : List ℕ} {at r : ℕ} → Put out at (text (lines_in d.lines s)) after r
       → (Put out at (text (verdict_lines v s)) after r) × (r ≤ at + 2048)
-  verdict_laid p = (rw is p, omega (arith, p.place, text_short n s, verdict_size_lem))
+  verdict_laid p = (rw is p, omega (arith, p.place, text_short d.lines s, verdict_size_lem))
 
-pub verdict_refused : (v : Verdict) (s : List ℕ) {n : ℕ} {out after : List ℕ} {at r : ℕ} → v ≡ Refused n
+pub verdict_refused : (v : Result Done Refusal) (s : List ℕ) {n : Refusal} {out after : List ℕ} {at r : ℕ} → v ≡ Err n
     → Put out at (text (refusal_line n ∷ [])) after r → r ≡ at + 5 → (Put out at (text (verdict_lines v s)) after r) × (r ≤ at + 2048)
 verdict_refused v s is p q = (rw is p, omega arith)
 
@@ -188,7 +189,7 @@ count_lines : (os : List Out) → length (map line_of os) ≡ length os
 count_lines [] = refl
 count_lines (o ∷ os) = ap suc (count_lines os)
 
-pub shows : (u : Value) (o : Outcome) (before after image : List ℕ) (r : Verdict) → r ≡ (turn_of u o).verdict → unit_of image ≡ (turn_of u o).unit
+pub shows : (u : Value) (o : Outcome) (before after image : List ℕ) (r : Result Done Refusal) → r ≡ (turn_of u o).verdict → unit_of image ≡ (turn_of u o).unit
     → after ≡ sets before 0 (octets_of o) → 1024 ≤ length before → length (octets_of o) ≤ 1024 → Lays u o r image after
 unfolding turn_of octets_of laid_out
 shows u (refused n) before after image r e f b w h = rw e (record { lines = refl; size = omega arith; unit = f })

@@ -1,9 +1,9 @@
 -- The lines that lie in a buffer, each as a 2-octet length and its octets. For the functions of this crate; no public contract speaks of it.
-use Rattle.std.specs.Prelude.{ℕ, zero, suc, ◌+◌, ◌*◌, ◌≤◌, ◌<◌, ◌≡◌, List, [], ◌∷◌, ◌++◌, take, drop, get_or, None, Option, Some}
+use Rattle.std.specs.Prelude.{ℕ, zero, suc, ◌+◌, ◌*◌, ◌≤◌, ◌<◌, ◌≡◌, List, [], ◌∷◌, ◌++◌, take, drop, get_or, None, Option, Some, Result, Ok, Err}
 use Rattle.std.specs.Borrow.{Bor}
 use Rattle.octets.specs.Put.{Put}
-use Rattle.book.specs.declared.Verdict.{Verdict}
-use Rattle.book.specs.declared.Verdict.TheVariants.{Done, Refused}
+use Rattle.book.specs.declared.Done.{Done}
+use Rattle.book.specs.declared.Refusal.{Refusal}
 use Rattle.book.specs.declared.Unit.{Unit as Value}
 use Rattle.book.specs.declared.Turn.{Turn}
 use Rattle.book.specs.Book.{Outcome}
@@ -29,21 +29,21 @@ size_of zero s = 0
 size_of (suc n) s = 2 + length_at s + size_of n (drop (2 + length_at s) s)
 
 -- an answer's lines
-abbrev pub verdict_lines : Verdict → List ℕ → List (List ℕ)
-verdict_lines (Done n k) s = lines_in n s
-verdict_lines (Refused n) s = refusal_line n ∷ []
+abbrev pub verdict_lines : Result Done Refusal → List ℕ → List (List ℕ)
+verdict_lines (Ok d) s = lines_in d.lines s
+verdict_lines (Err r) s = refusal_line r ∷ []
 
-abbrev pub verdict_size : Verdict → List ℕ → ℕ
-verdict_size (Done n k) s = size_of n s
-verdict_size (Refused n) s = 0
+abbrev pub verdict_size : Result Done Refusal → List ℕ → ℕ
+verdict_size (Ok d) s = size_of d.lines s
+verdict_size (Err r) s = 0
 
 -- what a first line leaves: the verdict, and the image of the unit
-pub record Begins (t : Turn) (r : Verdict) (image : List ℕ) : Type 0 where
+pub record Begins (t : Turn) (r : Result Done Refusal) (image : List ℕ) : Type 0 where
   pub verdict : r ≡ t.verdict
   pub unit : unit_of image ≡ t.unit
 
 -- what a unit laid at an event: its lines in the buffer, and the image of the next unit
-pub record Lays (u : Value) (o : Outcome) (r : Verdict) (image laid : List ℕ) : Type 0 where
+pub record Lays (u : Value) (o : Outcome) (r : Result Done Refusal) (image laid : List ℕ) : Type 0 where
   pub lines : verdict_lines r laid ≡ outcome_lines o
   pub size : verdict_size r laid ≤ 1024
   pub unit : unit_of image ≡ (turn_of u o).unit

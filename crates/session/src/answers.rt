@@ -8,7 +8,8 @@ ghost use Rattle.session.specs.Feeding.{most, last_line};
 ghost use Rattle.session.specs.Walking.{Begins, Lays, Says, stated, held_in, verdict_lines, verdict_size};
 
 use crate::{Phase, walk};
-use book::Verdict;
+use book::{Refusal, Verdict};
+use image::seen::Seen;
 
 // The phase after a line, and the place after what it printed.
 #[derive(Clone, Copy)]
@@ -39,7 +40,7 @@ fn state(unit: &[u8; 618], out: &mut [u8], at: usize) -> Said
 {
     Said {
         phase: Phase::Running,
-        end: walk::print_two(out, at, 240, image::state(unit)),
+        end: walk::print_two(out, at, 240, unit.state()),
     }
 }
 
@@ -49,10 +50,10 @@ fn begin(verdict: Verdict, unit: &[u8; 618], out: &mut [u8], at: usize) -> Said
     ensures { Says (begun (unit_of unit.now) verdict) out.old at unit.now out.new result }
 {
     match verdict {
-        Verdict::Done { .. } => state(unit, out, at),
-        Verdict::Refused(number) => Said {
+        Ok(_) => state(unit, out, at),
+        Err(refusal) => Said {
             phase: Phase::Stopped,
-            end: walk::print_two(out, at, 255, number),
+            end: walk::print_refusal(out, at, refusal),
         },
     }
 }
@@ -90,7 +91,7 @@ pub(crate) fn answer(
     match (phase, event) {
         (Phase::First, _) => begin(set_up(unit, event.unwrap_or(&[])), unit, out, at),
         (Phase::Running, Some(event)) => go_on(turn(unit, event, laid), laid, unit, out, at),
-        (Phase::Running, None) => go_on(Verdict::Refused(8), &[], unit, out, at),
+        (Phase::Running, None) => go_on(Err(Refusal::NoEvent), &[], unit, out, at),
         (Phase::Stopped, _) => Said { phase, end: at },
     }
 }
@@ -101,8 +102,8 @@ pub(crate) fn at_end(phase: Phase, left: bool, unit: &[u8; 618], out: &mut [u8])
     ensures { (Put out.old 0 (listed phase (unit_of unit.now) (last_line left)) out.new result) × (result ≤ most) }
 {
     match phase {
-        Phase::First => walk::print_two(out, 0, 255, 7),
-        Phase::Running if left => go_on(Verdict::Refused(8), &[], unit, out, 0).end,
+        Phase::First => walk::print_refusal(out, 0, Refusal::BadSetup),
+        Phase::Running if left => go_on(Err(Refusal::NoEvent), &[], unit, out, 0).end,
         _ => 0,
     }
 }

@@ -1,10 +1,10 @@
 // Printing: two octets, and the lines that a unit laid into its buffer.
 ghost use Rattle.std.specs.Prelude.{◌≡◌, ◌∷◌, [], ◌≤◌, ◌+◌, ◌*◌, length};
 ghost use Rattle.octets.specs.Put.{Put};
-ghost use Rattle.session.specs.Listing.{text};
+ghost use Rattle.session.specs.Listing.{text, refusal_line};
 ghost use Rattle.session.specs.Walking.{lines_in, size_of, verdict_lines, verdict_size};
 
-use book::Verdict;
+use book::{Refusal, Verdict};
 
 // A line of two octets.
 pub(crate) fn print_two(out: &mut [u8], at: usize, kind: u8, number: u8) -> usize
@@ -12,6 +12,14 @@ pub(crate) fn print_two(out: &mut [u8], at: usize, kind: u8, number: u8) -> usiz
     ensures { (Put out.old at (text ((kind ∷ number ∷ []) ∷ [])) out.new result) × (result ≡ at + 5) }
 {
     text::print(out, at, &[kind, number])
+}
+
+// `ff` and the number of a refusal.
+pub(crate) fn print_refusal(out: &mut [u8], at: usize, refusal: Refusal) -> usize
+    requires { at + 5 ≤ length out.old }
+    ensures { (Put out.old at (text (refusal_line refusal ∷ [])) out.new result) × (result ≡ at + 5) }
+{
+    print_two(out, at, 255, u8::from(refusal))
 }
 
 // The first n lines that were laid. Each takes two octets for its length, so twice the octets have room for what is printed.
@@ -30,7 +38,7 @@ fn print_laid(out: &mut [u8], at: usize, laid: &[u8], n: usize) -> usize
     place
 }
 
-// A unit's answer: the lines that it laid, or `ff` and the refusal's number.
+// A unit's answer: the lines that it laid, or the refusal.
 pub(crate) fn print_verdict(out: &mut [u8], at: usize, laid: &[u8], verdict: Verdict) -> usize
     requires within { verdict_size verdict laid.now ≤ length laid.now }
     requires few { verdict_size verdict laid.now ≤ 1024 }
@@ -38,7 +46,7 @@ pub(crate) fn print_verdict(out: &mut [u8], at: usize, laid: &[u8], verdict: Ver
     ensures { (Put out.old at (text (verdict_lines verdict laid.now)) out.new result) × (result ≤ at + 2048) }
 {
     match verdict {
-        Verdict::Done { lines, octets: _ } => print_laid(out, at, laid, lines),
-        Verdict::Refused(number) => print_two(out, at, 255, number),
+        Ok(done) => print_laid(out, at, laid, done.lines),
+        Err(refusal) => print_refusal(out, at, refusal),
     }
 }
