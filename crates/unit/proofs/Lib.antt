@@ -1,3 +1,3 @@
-pub mod EntryLaws
+pub mod DataShown
 pub mod OneResult
 pub mod Refusals

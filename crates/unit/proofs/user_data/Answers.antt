@@ -1,5 +1,5 @@
--- `unit::user_data` meets its contract. Closed by laws of EntryLaws, one for each way out.
-use Rattle.unit.proofs.EntryLaws.{data_none, data_some}
+-- `unit::user_data` meets its contract. Closed by laws of DataShown, one for each way out.
+use Rattle.unit.proofs.DataShown.{data_none, data_some}
 use Rattle.unit.proofs.user_data.Goals as goal
 
 pub returns-in_default : goal.returns-in_default
