@@ -28,7 +28,7 @@ use Rattle.image.specs.Answer.{Handled, SetsUp}
 use Rattle.image_laws.proofs.GoesOn as GoesOn
 use Rattle.image_laws.proofs.GoesOn.{set_verdict, set_unit}
 use Rattle.room_laws.proofs.Room.{room}
-use Rattle.session.specs.Listing.{Answer, text, two, no_setup, setup_in, first_turn, refusal_line, state_line, begun, later_outcome, outcome_lines, gone_on, answer_to, listed}
+use Rattle.session.specs.Listing.{Answer, text, two, no_setup, setup_in, first_turn, refusal_line, state_line, begun, answer_to, listed}
 use Rattle.session.specs.Feeding.{most, last_line}
 use Rattle.session.specs.Walking.{Begins, Lays, Says, stated, verdict_lines}
 use Rattle.session.specs.declared.answers.Said.{Said}

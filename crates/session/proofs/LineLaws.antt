@@ -1,18 +1,17 @@
 -- Laws of the line at the front of the input, as the code finds it; and of the input's end. Closed by the tests of a line.
 use Rattle.std.specs.Prelude.{None, Option, Some, IfSome}
-use Rattle.std.specs.Bool.{◌==◌}
 use Rattle.std.specs.Option.{option_map}
 use Rattle.std.specs.Borrow.{Bor}
 use Prim.Native.Nat.{ℕ, ◌+◌, ◌<◌, ◌≤◌}
 use mathlib.Core.Path.{◌≡◌, refl, ap, sym, ◌∙◌}
-use mathlib.Core.Bool.{Bool, true, false, not}
-use mathlib.Core.List.{List, [], ◌∷◌}
+use mathlib.Core.Bool.{Bool, true, false}
+use mathlib.Core.List.{List}
 use native.Mathlib.Omega.{arith}
-use borrow.Author.Tests.{le-ltb, lt-ltb, ne_eqb}
+use borrow.Author.Tests.{le-ltb, lt-ltb}
 use lib.Dec.{ltb}
 use lib.ListN.{length, take}
 use lib.Seq.{sets}
-use Rattle.octets.specs.Choice.{pick, either}
+use Rattle.octets.specs.Choice.{either}
 use Rattle.octets.specs.Put.{Put}
 use Rattle.octets.proofs.Puts as Puts
 use Rattle.text.specs.Reading.{leading, to_feed, event_in, line_in}
@@ -20,7 +19,6 @@ use Rattle.text.specs.Hearing.{Hears, ended, unended}
 use Rattle.text.specs.declared.Line.{Line}
 use Rattle.text.specs.declared.hearing.Fed.{Fed}
 use Rattle.text.proofs.FeedLaws.{leading_cut}
-use Rattle.text.proofs.Found as Found
 use Rattle.text.proofs.Found.{event_is, Found, octets, refused, found, found_octets}
 use Rattle.image.specs.Image.{unit_of}
 use Rattle.session.specs.Listing.{answer_to, listed}

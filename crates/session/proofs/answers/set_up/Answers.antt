@@ -1,8 +1,6 @@
 -- `session::answers::set_up` meets its contract. Closed by AnswerLaws, one law for each way out.
 use native.Mathlib.Omega.{arith}
 use borrow.Author.Rules.{rules}
-use Prim.Native.Nat.{◌<◌}
-use lib.ListN.{length}
 use Rattle.session.proofs.AnswerLaws.{begins_as, setup_none, setup_short, setup_is, setup_other}
 use Rattle.session.proofs.answers.set_up.Goals as goal
 use Rattle.session.proofs.answers.set_up.Goals.{in_default-via-then-event-lt7, in_default-via-else-event-lt7+in_default-1}
