@@ -20,7 +20,7 @@ impl Teller for Listing {
         out: &mut [u8],
     ) -> usize {
         let fed = session::feed(self.session, &mut self.unit, part, out);
-        self.session = fed.session;
+        self.session = fed.state;
         page.say(&out[..fed.written]);
         fed.taken
     }
@@ -31,10 +31,7 @@ impl Teller for Listing {
     }
 
     fn is_done(&self) -> bool {
-        match self.session.phase {
-            Phase::Stopped => true,
-            _ => false,
-        }
+        self.session.hearer == Phase::Stopped
     }
 }
 

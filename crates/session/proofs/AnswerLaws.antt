@@ -7,8 +7,9 @@ use mathlib.Core.List.{List, [], ◌∷◌, ◌++◌, append-nil}
 use native.Mathlib.Omega.{arith}
 use borrow.Author.Tests.{ne_eqb}
 use lib.Dec.{eqb, ltb}
-use lib.ListN.{length, take, drop, get_or, length-drop, drop_of_length-le}
-use lib.Seq.{take_all, sets}
+use lib.ListN.{length, take, drop, get_or, drop_of_length-le}
+use lib.Seq.{sets}
+use Rattle.std.proofs.lemmas.List.{get_or_default, take_rest}
 use Rattle.octets.specs.Choice.{pick, both}
 use Rattle.octets.specs.Put.{Put}
 use Rattle.octets.proofs.Puts as Puts
@@ -75,20 +76,15 @@ setup_short s h = rw (drop_of_length-le s {i = 7} (omega arith), no_name (ltb 0 
     go true = refl
     go false = refl
 
-kind_of_lem : (s : List ℕ) → 7 ≤ length s → get_or s 0 1 ≡ get_or s 0 0
-kind_of_lem [] h = absurd (omega arith)
-kind_of_lem (x ∷ s) h = refl
-
 setup_as : (s : List ℕ) (a b c : ℕ) → 7 ≤ length s → get_or s 0 0 ≡ 0 → a ≡ two s 1 → b ≡ two s 3 → c ≡ two s 5
     → set_up a b c (take (length s - 7) (drop 7 s)) ≡ setup_in s
 unfolding setup_in
 setup_as s a b c h k x y z =
-    let l : take (length s - 7) (drop 7 s) ≡ drop 7 s = take_all (length s - 7) (drop 7 s) (omega (arith, length-drop 7 s)) in
-    rw (kind_of_lem s h, k, l, x, y, z)
+    rw (get_or_default s 0 1 0 (omega arith), k, take_rest s 7, x, y, z)
 
 pub setup_other : (s : List ℕ) → 7 ≤ length s → (get_or s 0 0 ≡ 0 → ⊥) → no_setup ≡ setup_in s
 unfolding setup_in
-setup_other s h k = rw (kind_of_lem s h, ne_eqb (get_or s 0 0) 0 k)
+setup_other s h k = rw (get_or_default s 0 1 0 (omega arith), ne_eqb (get_or s 0 0) 0 k)
 
 -- a line that is no event is none, as an empty one
 setup_from : (e : Option (Bor (List ℕ))) (d : Bor (List ℕ)) → d.now ≡ [] → setup_in (unwrap_or e d).now ≡ first_turn (held_in e)

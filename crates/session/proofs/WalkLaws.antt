@@ -5,14 +5,14 @@ use mathlib.Core.Path.{◌≡◌, refl, ap, sym, ◌∙◌}
 use mathlib.Core.List.{List, [], ◌∷◌, ◌++◌, map, append-nil, append_assoc}
 use native.Mathlib.Omega.{arith}
 use borrow.Author.Tests.{le-leb}
-use lib.ListN.{length, take, drop, length-append, length-drop}
+use lib.ListN.{length, take, drop, length-append, length-drop, length-take, length-map}
 use lib.Seq.{sets, sets-eq, length-sets, drop-drop, take-append_seam, drop-append_seam, length-take-le}
 use Rattle.std.proofs.lemmas.List.{take_rest}
 use Rattle.octets.specs.Put.{Put}
 use Rattle.octets.proofs.Puts as Puts
 use Rattle.text.specs.Printing.{digits_of, printed, fits, printed_in}
 use Rattle.text.proofs.PrintLaws.{digits_long}
-use Rattle.book.specs.Book.{Outcome, refused, done, Out}
+use Rattle.book.specs.Book.{Outcome, refused, done}
 use Rattle.book.specs.Lines.{line_of, laid, laid_out}
 use Rattle.book.specs.Step.{turn_of, octets_of}
 use Rattle.book.specs.declared.Unit.{Unit as Value}
@@ -150,11 +150,6 @@ lies ls before after e h =
     let a = e ∙ sets-eq (laid ls) before 0 (omega arith) in
     (rw a (lines_laid ls (drop (0 + length (laid ls)) before)), rw a (size_laid ls (drop (0 + length (laid ls)) before)))
 
-take_short : (n : ℕ) (s : List ℕ) → length (take n s) ≤ n
-take_short zero s = omega arith
-take_short (suc n) [] = omega arith
-take_short (suc n) (x ∷ s) = let h = take_short n s in omega arith
-
 -- twice the octets have room for what is printed
 pub text_short : (n : ℕ) (s : List ℕ) → length (text (lines_in n s)) ≤ 2 * size_of n s
 unfolding text lines_in size_of
@@ -163,7 +158,7 @@ text_short (suc n) s =
     let l : List ℕ = take (length_at s) (drop 2 s) in
     let a = length-append (printed l) (text (lines_in n (drop (2 + length_at s) s))) in
     let b = printed_long l in
-    let c = take_short (length_at s) (drop 2 s) in
+    let c = length-take (length_at s) (drop 2 s) in
     let d = text_short n (drop (2 + length_at s) s) in
     omega arith
 
@@ -184,14 +179,10 @@ pub verdict_refused : (v : Result Done Refusal) (s : List ℕ) {n : Refusal} {ou
     → Put out at (text (refusal_line n ∷ [])) after r → r ≡ at + 5 → (Put out at (text (verdict_lines v s)) after r) × (r ≤ at + 2048)
 verdict_refused v s is p q = (rw is p, omega arith)
 
-count_lines : (os : List Out) → length (map line_of os) ≡ length os
-count_lines [] = refl
-count_lines (o ∷ os) = ap suc (count_lines os)
-
 pub shows : (u : Value) (o : Outcome) (before after image : List ℕ) (r : Result Done Refusal) → r ≡ (turn_of u o).verdict → unit_of image ≡ (turn_of u o).unit
     → after ≡ sets before 0 (octets_of o) → 1024 ≤ length before → length (octets_of o) ≤ 1024 → Lays u o r image after
 unfolding turn_of octets_of laid_out
 shows u (refused n) before after image r e f b w h = rw e (record { lines = refl; size = omega arith; unit = f })
 shows u (done st os) before after image r e f b w h =
     let l = lies (map line_of os) before after b (omega arith) in
-    rw e (record { lines = rw (count_lines os) at l.0; size = let z = rw (count_lines os) at l.1 in omega arith; unit = f })
+    rw e (record { lines = rw (length-map os line_of) at l.0; size = let z = rw (length-map os line_of) at l.1 in omega arith; unit = f })

@@ -56,7 +56,7 @@ impl Teller for Story {
         self.reader = fed.reader;
         page.say(&out[..fed.written]);
         let answer = session::feed(self.session, &mut self.unit, line, &mut self.said);
-        self.session = answer.session;
+        self.session = answer.state;
         self.answer(page, answer.written, out);
         end
     }
@@ -69,10 +69,7 @@ impl Teller for Story {
     }
 
     fn is_done(&self) -> bool {
-        match self.session.phase {
-            Phase::Stopped => true,
-            _ => false,
-        }
+        self.session.hearer == Phase::Stopped
     }
 }
 
