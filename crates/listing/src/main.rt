@@ -2,6 +2,8 @@
 // are those of `blocks`; here is the image of the unit, which is lent to the session.
 #![tactic(auto)]
 
+ghost use Rattle.listing.specs.Taking.{Takes};
+
 use blocks::{Page, Teller};
 use session::{Phase, Session};
 use std::io::{Eprint, Print};
@@ -13,6 +15,8 @@ struct Listing {
 }
 
 impl Teller for Listing {
+    ghost takes = { Takes };
+
     fn tell<R: Print + Eprint>(
         &mut self,
         page: &mut Page<'_, R>,

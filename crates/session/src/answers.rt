@@ -65,7 +65,8 @@ fn turn(unit: &mut [u8; 618], event: &[u8], laid: &mut [u8; 1024]) -> Verdict
     engine::handle(unit, event, laid)
 }
 
-// A later line: what the unit answers, and then its state.
+// A later line: what the unit answers, and then its state. Inlined, as `answer` is: called, the two cost a twentieth of the listing's time.
+#[inline(always)]
 fn go_on(verdict: Verdict, laid: &[u8], unit: &[u8; 618], out: &mut [u8], at: usize) -> Said
     requires within { verdict_size verdict laid.now ≤ length laid.now }
     requires few { verdict_size verdict laid.now ≤ 1024 }
@@ -76,7 +77,9 @@ fn go_on(verdict: Verdict, laid: &[u8], unit: &[u8; 618], out: &mut [u8], at: us
     state(unit, out, end)
 }
 
-// A line of the input, as the event that it is, or none.
+// A line of the input, as the event that it is, or none. `out` and `at` stay two: a struct of them would be made in `hear`, which is lent them apart, and
+// taken apart in `text::print`, so it is no plainer.
+#[inline(always)]
 pub(crate) fn answer(
     phase: Phase,
     unit: &mut [u8; 618],
