@@ -99,7 +99,8 @@ fn keep_rest(block: &mut [u8], from: usize, n: usize)
     block.copy_within(from..n, 0);
 }
 
-// One read, and the lines that are whole now. Answers how many octets the block holds then, or None where that was all: the input has ended, or can't be
+// One read, and the lines that are whole now. `held` octets stand at the block's front: a buffer with a length beside it, since memory is fixed here and
+// std's buffered reader allocates. Answers how many octets the block holds then, or None where that was all: the input has ended, or can't be
 // read, or no more is to be said.
 fn turn<T: Teller, I: Read, R: Print + Eprint>(
     teller: &mut T,
