@@ -1,3 +1,3 @@
+pub mod Page
 pub mod Spelling
 pub mod Tables
-pub mod Frames
