@@ -1,5 +1,6 @@
 -- THE TWO ENGINES AGREE: on the image of any unit, sound or not, the contract over an image leaves the verdict, the buffer and the image of the unit that
 -- the contract by value leaves. Closed by: the unit that the image stands for is that unit, or both are unsound.
+use Rattle.std.specs.Prelude.{Result}
 use Prim.Native.Nat.{ℕ, ◌+◌, ◌/◌, ◌%◌, ◌≤◌, ◌<◌}
 use mathlib.Core.Path.{◌≡◌, refl, ap, sym, ◌∙◌}
 use mathlib.Core.Bool.{Bool, true, false}
@@ -11,12 +12,14 @@ use lib.Dec.{ltb}
 use lib.ListN.{length, drop, get_or, length-append}
 use lib.Seq.{sets, drop-drop, get_or-drop, drop_at}
 use Rattle.octets.specs.Choice.{pick}
+use Rattle.book.specs.declared.Done.{Done}
+use Rattle.book.specs.declared.Refusal.{Refusal}
+use Rattle.book.specs.declared.Refusal.TheVariants.{NoRoom, Unsound}
 use Rattle.book.specs.Book.{Outcome, refused, done}
 use Rattle.book.specs.Sound.{sound_of}
 use Rattle.book.specs.Step.{step, turn_of, octets_of, Turned}
 use Rattle.book.specs.declared.Unit.{Unit as Value}
 use Rattle.book.specs.declared.Turn.{Turn}
-use Rattle.book.specs.declared.Verdict.{Verdict}
 use Rattle.image.specs.Image.{unit_of, cut, waiting_octets, rest_octets, image_of}
 use Rattle.image.specs.Answer.{outcome_on, image_after, Handled}
 use Rattle.image.proofs.ImageLaws.{waiting_long, numbers_long}
@@ -49,7 +52,7 @@ module _ (room : ℕ) (w u : Value) (ev : List ℕ) where
   alike_verdict (same e) = ap (λ x. (turn_of x (step room u ev)).verdict) e
   alike_verdict (unsound a b) = rw b (go (ltb room 1024))
     where
-      go : (t : Bool) → (turn_of w (pick t (refused 6) (refused 9))).verdict ≡ (turn_of u (pick t (refused 6) (refused 9))).verdict
+      go : (t : Bool) → (turn_of w (pick t (refused NoRoom) (refused Unsound))).verdict ≡ (turn_of u (pick t (refused NoRoom) (refused Unsound))).verdict
       go true = refl
       go false = refl
 
@@ -64,8 +67,8 @@ module _ (room : ℕ) (w u : Value) (ev : List ℕ) where
       go (done st os) = refl
   alike_image (unsound a b) = rw b (go (ltb room 1024))
     where
-      go : (t : Bool) → image_after (image_of u) (turn_of w (pick t (refused 6) (refused 9))).unit (turn_of w (pick t (refused 6) (refused 9))).verdict
-          ≡ image_of (turn_of u (pick t (refused 6) (refused 9))).unit
+      go : (t : Bool) → image_after (image_of u) (turn_of w (pick t (refused NoRoom) (refused Unsound))).unit (turn_of w (pick t (refused NoRoom) (refused Unsound))).verdict
+          ≡ image_of (turn_of u (pick t (refused NoRoom) (refused Unsound))).unit
       go true = refl
       go false = refl
 
@@ -137,7 +140,7 @@ module _ (u : Value) (wide : length u.name ≡ 32) (eight : length u.waiting ≡
   unfolding outcome_on step
   outcome_is room ev = rw (eq-eqb (length (image_of u)) 618 image_long) (go (ltb room 1024) _ ∙ alike_step room w u ev alike)
     where
-      go : (t : Bool) (x : Outcome) → pick t (refused 6) (pick t (refused 6) x) ≡ pick t (refused 6) x
+      go : (t : Bool) (x : Outcome) → pick t (refused NoRoom) (pick t (refused NoRoom) x) ≡ pick t (refused NoRoom) x
       go true x = refl
       go false x = refl
 
@@ -151,7 +154,7 @@ module _ (u : Value) (wide : length u.name ≡ 32) (eight : length u.waiting ≡
 
   -- ---- BOTH ENGINES AGREE, for every event and buffer
 
-  pub agree : (ev out : List ℕ) {t : Turn} {v : Verdict} {after out₁ out₂ : List ℕ} → Turned u (step (length out) u ev) out t out₁
+  pub agree : (ev out : List ℕ) {t : Turn} {v : Result Done Refusal} {after out₁ out₂ : List ℕ} → Turned u (step (length out) u ev) out t out₁
       → Handled (image_of u) ev out v after out₂ → (v ≡ t.verdict) × ((after ≡ image_of t.unit) × (out₂ ≡ out₁))
   agree ev out {t} {v} {after} {out₁} {out₂} g h =
       let o = outcome_is (length out) ev in

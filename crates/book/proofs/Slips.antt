@@ -6,6 +6,8 @@ use mathlib.Core.Path.{◌≡◌, refl}
 use mathlib.Core.Bool.{true, false}
 use mathlib.Core.List.{List, [], ◌∷◌}
 use Rattle.book.specs.declared.Terms.{Terms}
+use Rattle.book.specs.declared.Refusal.{Refusal}
+use Rattle.book.specs.declared.Refusal.TheVariants.{OtherTerms, Waits, Full}
 use Rattle.book.specs.declared.Unit.{Unit as Value}
 use Rattle.book.specs.Book.{Body, Msg, plain, sure, Kind, ok, unknown, Frame, msg, note, good, Out, give, answer, success, uncertain, send, seen, gone, start, dat, cut, State, idle, single, multi, ending, assoc, Setup, Outcome, refused, done, local, ack, on_request, on_dat, on_reply, on_tick}
 use Rattle.book.specs.Book as Book
@@ -59,9 +61,9 @@ seen_given_acknowledged = refl
 
 -- refusal 3 before 4 and 5, 4 before 5; at eight an 02 is refused and an 01 still taken
 pub refused_in_order :
-    (on_request true others (good (msg (sheet 5)) 0) (assoc terms eight 0) ≡ refused 3)
-    × (on_request true terms (good (msg (sheet 5)) 0) (assoc terms eight 0) ≡ refused 4)
-    × (on_request true terms (good (msg (sheet 9)) 0) (assoc terms eight 0) ≡ refused 5)
+    (on_request true others (good (msg (sheet 5)) 0) (assoc terms eight 0) ≡ refused OtherTerms)
+    × (on_request true terms (good (msg (sheet 5)) 0) (assoc terms eight 0) ≡ refused Waits)
+    × (on_request true terms (good (msg (sheet 9)) 0) (assoc terms eight 0) ≡ refused Full)
     × (on_request false terms (good (msg (plain None None None body)) 0) (assoc terms eight 7)
     ≡ done (assoc terms eight 0) (send (dat (good (msg (plain None None None body)) 0)) ∷ []))
 unfolding on_request Book.on_vetted Book.vet Book.on_shot Book.body_of Book.on_multi Book.bar Book.bar_confirmed Book.same_terms Book.settled Book.full Book.ids_of
@@ -81,6 +83,6 @@ unfolding on_tick Book.fall Book.unsure
 falls_in_order = refl
 
 -- "Every refusal returns its number, the unit unchanged"
-pub refusal_keeps : (u : Value) (n : ℕ) → (turn_of u (refused n)).unit ≡ u
+pub refusal_keeps : (u : Value) (r : Refusal) → (turn_of u (refused r)).unit ≡ u
 unfolding turn_of
-refusal_keeps u n = refl
+refusal_keeps u r = refl

@@ -3,6 +3,8 @@
 use Rattle.std.specs.Prelude.{Bool, true, false, List, [], ◌∷◌, ◌++◌, ℕ, zero, suc, eqb, leb, length, None, Option, Some}
 use Rattle.octets.specs.Choice.{pick, both, either}
 use Rattle.book.specs.declared.Terms.{Terms}
+use Rattle.book.specs.declared.Refusal.{Refusal}
+use Rattle.book.specs.declared.Refusal.TheVariants.{WrongState, BadFrame, OtherTerms, Waits, Full}
 
 -- ---------------------------------------------------------------- messages and lines
 
@@ -71,9 +73,9 @@ pub record Setup : Type 0 where
   pub end_limit : ℕ
   pub inactivity_limit : ℕ
 
--- A refusal by its number ("the unit unchanged and the buffer untouched"), or the next state and the output lines in order.
+-- A refusal ("the unit unchanged and the buffer untouched"; 01's number of each is in Refusals), or the next state and the output lines in order.
 pub data Outcome : Type 0 where
-  refused : (number : ℕ) → Outcome
+  refused : Refusal → Outcome
   done : State → List Out → Outcome
 
 -- ---------------------------------------------------------------- terms
@@ -176,34 +178,34 @@ vet true (good (msg (sure i r q b)) zero) = Some (sure i r q b)
 vet false (good (msg (sure i r q b)) zero) = None
 
 -- 4: "the identifier of an 02 is already waiting"; 5: "an 02 comes while eight identifiers are waiting (01 is still taken)"
-unfoldable pub bar_confirmed : Msg → List ℕ → Option ℕ
+unfoldable pub bar_confirmed : Msg → List ℕ → Option Refusal
 bar_confirmed (plain i r q b) w = None
-bar_confirmed (sure i r q b) w = pick (waits i w) (Some 4) (pick (full w) (Some 5) None)
+bar_confirmed (sure i r q b) w = pick (waits i w) (Some Waits) (pick (full w) (Some Full) None)
 
 -- The refusal 3, 4 or 5 that a multi-shot request meets in Associated, if any. 3: "a multi-shot request in Associated has terms other than the
 -- dialogue's".
-unfoldable pub bar : Terms → Msg → State → Option ℕ
+unfoldable pub bar : Terms → Msg → State → Option Refusal
 bar a m idle = None
 bar a m (single T w t) = None
 bar a m (multi T k t) = None
 bar a m (ending T w t) = None
-bar a m (assoc T w t) = pick (same_terms (settled a) T) (bar_confirmed m w) (Some 3)
+bar a m (assoc T w t) = pick (same_terms (settled a) T) (bar_confirmed m w) (Some OtherTerms)
 
 -- "Single request in 0: line 30 with the frame, to 1."
 unfoldable pub on_single : Terms → Msg → State → Outcome
 on_single a m idle = done (single (settled a) (ids_of m) 0) (send (start (settled a) (Some (good (msg m) 0))) ∷ [])
-on_single a m (single T w t) = refused 1
-on_single a m (multi T k t) = refused 1
-on_single a m (ending T w t) = refused 1
-on_single a m (assoc T w t) = refused 1
+on_single a m (single T w t) = refused WrongState
+on_single a m (multi T k t) = refused WrongState
+on_single a m (ending T w t) = refused WrongState
+on_single a m (assoc T w t) = refused WrongState
 
 -- "Multi in 0: keep the frame, line 30 without one, to 2. Multi in 4: line 32, elapsed 0. A confirmed identifier joins the waiting list".
-unfoldable pub on_multi : (bar : Option ℕ) → Terms → Msg → State → Outcome
+unfoldable pub on_multi : (bar : Option Refusal) → Terms → Msg → State → Outcome
 on_multi b a m idle = done (multi (settled a) m 0) (send (start (settled a) None) ∷ [])
-on_multi b a m (single T w t) = refused 1
-on_multi b a m (multi T k t) = refused 1
-on_multi b a m (ending T w t) = refused 1
-on_multi (Some n) a m (assoc T w t) = refused n
+on_multi b a m (single T w t) = refused WrongState
+on_multi b a m (multi T k t) = refused WrongState
+on_multi b a m (ending T w t) = refused WrongState
+on_multi (Some r) a m (assoc T w t) = refused r
 on_multi None a m (assoc T w t) = done (assoc T (w ++ ids_of m) 0) (send (dat (good (msg m) 0)) ∷ [])
 
 unfoldable pub on_shot : (maintained : Bool) → Terms → Msg → State → Outcome
@@ -211,7 +213,7 @@ on_shot false a m st = on_single a m st
 on_shot true a m st = on_multi (bar a m st) a m st
 
 unfoldable pub on_vetted : Terms → Option Msg → State → Outcome
-on_vetted a None st = refused 2
+on_vetted a None st = refused BadFrame
 on_vetted a (Some m) st = on_shot (body_of m).maintained a m st
 
 unfoldable pub on_request : (confirmed : Bool) → Terms → Reading → State → Outcome
@@ -221,10 +223,10 @@ on_request c a r st = on_vetted a (vet c r) st
 
 -- "03 in 4: 33, to 3."
 unfoldable pub on_end : State → Outcome
-on_end idle = refused 1
-on_end (single T w t) = refused 1
-on_end (multi T k t) = refused 1
-on_end (ending T w t) = refused 1
+on_end idle = refused WrongState
+on_end (single T w t) = refused WrongState
+on_end (multi T k t) = refused WrongState
+on_end (ending T w t) = refused WrongState
 on_end (assoc T w t) = done (ending T w 0) (send fin ∷ [])
 
 -- "The limit is start in 1 and 2, end in 3, inactivity in 4": whether one more tick reaches it
@@ -266,10 +268,10 @@ first_contact s a (Some (good (note k r i q b) e)) = done idle (with_seen e (sen
 
 unfoldable pub on_start : Setup → Terms → Option Reading → State → Outcome
 on_start s a f idle = first_contact s a f
-on_start s a f (single T w t) = refused 1
-on_start s a f (multi T k t) = refused 1
-on_start s a f (ending T w t) = refused 1
-on_start s a f (assoc T w t) = refused 1
+on_start s a f (single T w t) = refused WrongState
+on_start s a f (multi T k t) = refused WrongState
+on_start s a f (ending T w t) = refused WrongState
+on_start s a f (assoc T w t) = refused WrongState
 
 -- ---------------------------------------------------------------- 11
 
@@ -299,13 +301,13 @@ begun s a k (Some f) = fall s true (ids_of k) 10
 -- "11 in 1: rejected, to 0 … Accepted: fall with 35 reason 10, the frame unread." "11 in 2: … Rejected: any waiting identifier answered failed,
 -- line 24 reason 3, to 0; the frame isn't read."
 unfoldable pub on_reply : Setup → (accepted : Bool) → Option Reading → State → Outcome
-on_reply s a f idle = refused 1
+on_reply s a f idle = refused WrongState
 on_reply s true f (single T w t) = fall s false w 10
 on_reply s false f (single T w t) = done idle (answered_by s w f)
 on_reply s true f (multi T k t) = begun s T k f
 on_reply s false f (multi T k t) = done idle (refuse_all s (ids_of k) (gone 3 ∷ []))
-on_reply s a f (ending T w t) = refused 1
-on_reply s a f (assoc T w t) = refused 1
+on_reply s a f (ending T w t) = refused WrongState
+on_reply s a f (assoc T w t) = refused WrongState
 
 -- ---------------------------------------------------------------- 12
 
@@ -321,9 +323,9 @@ left_waiting w (Some v) = v
 -- "12 in 3 or 4: a faulty frame makes a fall with 35. Otherwise elapsed 0 in state 4, unchanged in 3 (ours). Confirmation 0 gives 20; 1 gives 21,
 -- then in state 4 only an acknowledgement by 32; 2 to 4 give 22 … Ending takes confirmations too (ours)."
 unfoldable pub on_dat : Setup → Reading → State → Outcome
-on_dat s f idle = refused 1
-on_dat s f (single T w t) = refused 1
-on_dat s f (multi T k t) = refused 1
+on_dat s f idle = refused WrongState
+on_dat s f (single T w t) = refused WrongState
+on_dat s f (multi T k t) = refused WrongState
 on_dat s (bad n) (ending T w t) = fall s true w n
 on_dat s (good (msg m) e) (ending T w t) = done (ending T w t) (with_seen e (give T m ∷ []))
 on_dat s (good (note k r i q b) e) (ending T w t) =
@@ -339,24 +341,24 @@ on_dat s (good (note k r i q b) e) (assoc T w t) =
 
 -- "13: 34 accepted, all waiting answered uncertain, 23, to 0."
 unfoldable pub on_fin : Setup → State → Outcome
-on_fin s idle = refused 1
-on_fin s (single T w t) = refused 1
-on_fin s (multi T k t) = refused 1
-on_fin s (ending T w t) = refused 1
+on_fin s idle = refused WrongState
+on_fin s (single T w t) = refused WrongState
+on_fin s (multi T k t) = refused WrongState
+on_fin s (ending T w t) = refused WrongState
 on_fin s (assoc T w t) = done idle (send (fin_ok true) ∷ unsure s true w (ended ∷ []))
 
 -- "14 accepted: all waiting answered uncertain, to 0. 14 rejected: to 4."
 unfoldable pub on_fin_ok : Setup → (accepted : Bool) → State → Outcome
-on_fin_ok s a idle = refused 1
-on_fin_ok s a (single T w t) = refused 1
-on_fin_ok s a (multi T k t) = refused 1
-on_fin_ok s a (assoc T w t) = refused 1
+on_fin_ok s a idle = refused WrongState
+on_fin_ok s a (single T w t) = refused WrongState
+on_fin_ok s a (multi T k t) = refused WrongState
+on_fin_ok s a (assoc T w t) = refused WrongState
 on_fin_ok s true (ending T w t) = done idle (unsure s true w [])
 on_fin_ok s false (ending T w t) = done (assoc T w 0) []
 
 -- "15, 16: fall without 35, reason 0 or 1."
 unfoldable pub on_abort : Setup → (reason : ℕ) → State → Outcome
-on_abort s r idle = refused 1
+on_abort s r idle = refused WrongState
 on_abort s r (single T w t) = quiet_fall s false w r
 on_abort s r (multi T k t) = quiet_fall s true (ids_of k) r
 on_abort s r (ending T w t) = quiet_fall s true w r

@@ -1,3 +1,4 @@
+pub mod Refusals
 pub mod Book
 pub mod View
 pub mod Lines

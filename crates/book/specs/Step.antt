@@ -1,5 +1,5 @@
 -- A TURN AT THE LEVEL OF OCTETS: read the event, apply the rule book, write the lines.
-use Rattle.std.specs.Prelude.{ℕ, ◌≡◌, List, [], ◌∷◌, length, drop, replicate, ltb, None, Option, Some}
+use Rattle.std.specs.Prelude.{ℕ, ◌≡◌, List, [], ◌∷◌, length, drop, replicate, ltb, None, Option, Some, Ok, Err}
 use Rattle.std.proofs.lemmas.List.Edits.{sets}
 use Rattle.octets.specs.Choice.{pick}
 use Rattle.book.specs.Book.{Reading, State, idle, Setup, Outcome, refused, done, on_request, on_end, on_tick, late, on_start, on_reply, on_dat, on_fin, on_fin_ok, on_abort}
@@ -11,7 +11,7 @@ use Rattle.book.specs.Events.{event_of, frame_from}
 use Rattle.book.specs.declared.Unit.{Unit as Value}
 use Rattle.book.specs.declared.Event.{Event}
 use Rattle.book.specs.declared.Event.TheVariants.{Malformed, Transfer, End, Tick, StartAsked, StartAnswered, Data, EndAsked, EndAnswered, Aborted, Dropped}
-use Rattle.book.specs.declared.Verdict.TheVariants.{Done, Refused}
+use Rattle.book.specs.declared.Refusal.TheVariants.{NoRoom, BadSetup, NoEvent, Unsound}
 use Rattle.book.specs.declared.Turn.{Turn}
 
 -- "frame or nothing": an empty frame in 10 and 11 is nothing
@@ -21,7 +21,7 @@ or_nothing (x ∷ s) = Some (reading_in (x ∷ s))
 
 -- the rule book's answer to an event whose frame has the octets f
 unfoldable pub does : Setup → Event → (f : List ℕ) → State → Outcome
-does s Malformed f st = refused 8
+does s Malformed f st = refused NoEvent
 does s (Transfer c a) f st = on_request c a (reading_in f) st
 does s End f st = on_end st
 does s Tick f st = on_tick s (late s st) st
@@ -37,18 +37,18 @@ does s Dropped f st = on_abort s 1 st
 -- isn't sound"
 unfoldable pub step : (room : ℕ) → Value → (event : List ℕ) → Outcome
 step room u ev =
-    pick (ltb room 1024) (refused 6)
-    (pick (sound_of u) (does (setup_of u) (event_of ev) (drop (frame_from (event_of ev)) ev) (state_of u)) (refused 9))
+    pick (ltb room 1024) (refused NoRoom)
+    (pick (sound_of u) (does (setup_of u) (event_of ev) (drop (frame_from (event_of ev)) ev) (state_of u)) (refused Unsound))
 
 -- ---- an outcome as the code's value and octets
 
 -- "Every refusal returns its number, the unit unchanged and the buffer untouched"
 unfoldable pub turn_of : Value → Outcome → Turn
-turn_of u (refused n) = record { unit = u; verdict = Refused n }
-turn_of u (done st os) = record { unit = picture (setup_of u) st; verdict = Done (length os) (length (laid_out os)) }
+turn_of u (refused r) = record { unit = u; verdict = Err r }
+turn_of u (done st os) = record { unit = picture (setup_of u) st; verdict = Ok (record { lines = length os; octets = length (laid_out os) }) }
 
 unfoldable pub octets_of : Outcome → List ℕ
-octets_of (refused n) = []
+octets_of (refused r) = []
 octets_of (done st os) = laid_out os
 
 -- a turn with the outcome o: the value returned, and the whole buffer ("octets after the used part stay")
@@ -81,6 +81,6 @@ set_up start end inactivity name =
     pick (within_limits start end inactivity (length name))
     (record {
       unit = picture (record { name = name; start_limit = start; end_limit = end; inactivity_limit = inactivity }) idle;
-      verdict = Done 0 0;
+      verdict = Ok (record { lines = 0; octets = 0 });
     })
-    (record { unit = blank; verdict = Refused 7 })
+    (record { unit = blank; verdict = Err BadSetup })

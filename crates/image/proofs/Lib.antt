@@ -1,3 +1,5 @@
+pub mod Zeros
+pub mod WordLaws
 pub mod ImageLaws
 pub mod RoundTrip
 pub mod Near

@@ -3,11 +3,8 @@ use Prim.Native.Nat.{ℕ, ◌+◌, ◌*◌, ◌<◌, ◌≤◌}
 use mathlib.Core.Path.{◌≡◌, refl, sym, ◌∙◌}
 use mathlib.Core.List.{List}
 use native.Mathlib.Omega.{arith}
-use borrow.Author.Tests.{eq-eqb, ne_eqb}
 use lib.ListN.{length, get_or, get_or-eq_default}
-use Rattle.book.specs.Sound.{limit_of}
 use Rattle.book.specs.declared.Terms.{Terms}
-use Rattle.book.specs.declared.Unit.{Unit as Value}
 use Rattle.image.specs.Image.{two, waiting_in, unit_of}
 use Rattle.image.proofs.StoreLaws.{id_in, waiting_eight}
 
@@ -29,21 +26,6 @@ id_at s i h q = q ∙ id_in s i h
 
 pub id_none : (s : List ℕ) (i : ℕ) → 8 ≤ i → 0 ≡ get_or (unit_of s).waiting i 0
 id_none s i h = sym (get_or-eq_default (unit_of s).waiting 0 {n = i} (omega (arith, eight_wait s)))
-
--- ---- the limit
-
-module _ (u : Value) {n r : ℕ} (e : n ≡ u.state) where
-  pub limit_4 : n ≡ 4 → r ≡ u.inactivity → r ≡ limit_of u
-  unfolding limit_of
-  limit_4 h q = q ∙ rw (eq-eqb u.state 4 (sym e ∙ h))
-
-  pub limit_3 : (n ≡ 4 → ⊥) → n ≡ 3 → r ≡ u.end → r ≡ limit_of u
-  unfolding limit_of
-  limit_3 z h q = q ∙ rw (ne_eqb u.state 4 (λ y. z (e ∙ y)), eq-eqb u.state 3 (sym e ∙ h))
-
-  pub limit_1 : (n ≡ 4 → ⊥) → (n ≡ 3 → ⊥) → r ≡ u.start → r ≡ limit_of u
-  unfolding limit_of
-  limit_1 z y q = q ∙ rw (ne_eqb u.state 4 (λ x. z (e ∙ x)), ne_eqb u.state 3 (λ x. y (e ∙ x)))
 
 -- ---- terms
 

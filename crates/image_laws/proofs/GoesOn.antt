@@ -1,6 +1,7 @@
 -- A unit that is held as an image goes on as the unit itself: what setup writes stands for the new unit, and after each event the image stands for the
 -- unit after it, sound again. So a program that starts by setup, and hands back what it was given, never meets refusal 9. Closed by the round trip of
 -- an image (image), and by soundness, which every rule keeps (sound_laws).
+use Rattle.std.specs.Prelude.{Result, Ok, Err}
 use Prim.Native.Nat.{ℕ, zero, suc, ◌+◌, ◌-◌, ◌≤◌, ◌<◌}
 use mathlib.Core.Path.{◌≡◌, refl, ap, sym, ◌∙◌}
 use mathlib.Core.Bool.{Bool, true, false}
@@ -12,6 +13,9 @@ use lib.ListN.{length, take, drop, get_or, replicate, length-append, length-drop
 use lib.Seq.{sets, length-take-le, get_or-drop}
 use Rattle.octets.specs.Choice.{pick, both}
 use Rattle.frame.specs.Reading.{octet}
+use Rattle.book.specs.declared.Done.{Done}
+use Rattle.book.specs.declared.Refusal.{Refusal}
+use Rattle.book.specs.declared.Refusal.TheVariants.{NoRoom, BadSetup, Unsound}
 use Rattle.book.specs.Book.{State, idle, single, multi, ending, assoc, Setup, Out, Outcome, refused, done, ids_of}
 use Rattle.book.specs.View.{reading_in, msg_octets}
 use Rattle.book.specs.Picture.{padded, pictured, picture, setup_of, no_terms}
@@ -20,8 +24,6 @@ use Rattle.book.specs.Step.{step, turn_of, octets_of, blank, set_up}
 use Rattle.book.specs.declared.Terms.{Terms}
 use Rattle.book.specs.declared.Unit.{Unit as Value}
 use Rattle.book.specs.declared.Turn.{Turn}
-use Rattle.book.specs.declared.Verdict.{Verdict}
-use Rattle.book.specs.declared.Verdict.TheVariants.{Done, Refused}
 use Rattle.sound_laws.proofs.Within.{both_left, both_right}
 use Rattle.sound_laws.proofs.Kept as Kept
 use Rattle.image.specs.Image.{unit_of, image_of, waiting_in}
@@ -112,13 +114,13 @@ setup_back a b c name = go (within_limits a b c (length name)) refl
     s = record { name = name; start_limit = a; end_limit = b; inactivity_limit = c }
 
     fresh : Bool → Value
-    fresh w = (pick {A = Turn} w (record { unit = picture s idle; verdict = Done 0 0 }) (record { unit = blank; verdict = Refused 7 })).unit
+    fresh w = (pick {A = Turn} w (record { unit = picture s idle; verdict = Ok (record { lines = 0; octets = 0 }) }) (record { unit = blank; verdict = Err BadSetup })).unit
 
     go : (w : Bool) → within_limits a b c (length name) ≡ w → unit_of (image_of (fresh w)) ≡ fresh w
     go true e = picture_back s idle (ap (λ w. sound_of (fresh w)) (sym e) ∙ Kept.new a b c name e)
     go false e = blank_back
 
-module _ (a b c : ℕ) (name image : List ℕ) {r : Verdict} {after : List ℕ} (e : length image ≡ 618) (h : SetsUp a b c name image r after) where
+module _ (a b c : ℕ) (name image : List ℕ) {r : Result Done Refusal} {after : List ℕ} (e : length image ≡ 618) (h : SetsUp a b c name image r after) where
   pub set_verdict : r ≡ (set_up a b c name).verdict
   set_verdict = rw (eq-eqb (length image) 618 e) at h.verdict
 
@@ -163,7 +165,7 @@ module _ (image : List ℕ) (e : length image ≡ 618) (small : (i : ℕ) → oc
     unfolding outcome_on step
     outcome_is = rw (eq-eqb (length image) 618 e) (go (ltb room 1024) _)
       where
-        go : (b : Bool) (x : Outcome) → pick b (refused 6) (pick b (refused 6) x) ≡ pick b (refused 6) x
+        go : (b : Bool) (x : Outcome) → pick b (refused NoRoom) (pick b (refused NoRoom) x) ≡ pick b (refused NoRoom) x
         go true x = refl
         go false x = refl
 
@@ -172,7 +174,7 @@ module _ (image : List ℕ) (e : length image ≡ 618) (small : (i : ℕ) → oc
     unfolding step
     unsound s st os q = go (ltb room 1024) (rw s at q)
       where
-        go : (b : Bool) → done st os ≡ pick b (refused 6) (refused 9) → ⊥
+        go : (b : Bool) → done st os ≡ pick b (refused NoRoom) (refused Unsound) → ⊥
         go true p = let z : ◌≡◌ {A = ℕ} 0 1 = cc in absurd (omega arith)
         go false p = let z : ◌≡◌ {A = ℕ} 0 1 = cc in absurd (omega arith)
 
@@ -185,7 +187,7 @@ module _ (image : List ℕ) (e : length image ≡ 618) (small : (i : ℕ) → oc
       after_is false s (done st os) q = absurd (unsound s st os q)
 
 -- after an event the image stands for the unit after it: for every image, sound or not
-module _ (image ev out : List ℕ) {r : Verdict} {after out' : List ℕ} (e : length image ≡ 618) (small : (i : ℕ) → octet image i < 256)
+module _ (image ev out : List ℕ) {r : Result Done Refusal} {after out' : List ℕ} (e : length image ≡ 618) (small : (i : ℕ) → octet image i < 256)
     (smallEvent : (i : ℕ) → octet ev i < 256) (h : Handled image ev out r after out') where
   pub handled_verdict : r ≡ (turn_of (unit_of image) (step (length out) (unit_of image) ev)).verdict
   handled_verdict = rw (outcome_is image e small ev (length out)) at h.verdict

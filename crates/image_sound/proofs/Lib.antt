@@ -1,3 +1,1 @@
-pub mod WordLaws
-pub mod SoundLaws
 pub mod OneResult

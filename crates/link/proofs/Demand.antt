@@ -6,6 +6,7 @@ use mathlib.Core.List.{List, [], ◌∷◌, ◌++◌, map}
 use native.Mathlib.Omega.{arith}
 use lib.ListN.{length}
 use Rattle.octets.specs.Choice.{pick, either}
+use Rattle.book.specs.declared.Refusal.TheVariants.{WrongState}
 use Rattle.book.specs.Book.{Msg, State, idle, single, multi, ending, assoc, Setup, Outcome, refused}
 use Rattle.book.specs.Picture.{picture}
 use Rattle.book.specs.Sound.{within_limits}
@@ -107,7 +108,7 @@ module _ (s : Setup) (st : State) (d : ℕ) (h : Bool) (F : ℕ → Log) (f : �
       rel_here : (e : ℕ) → ((k : ℕ) → RelLog (F k) (f k)) → inside e (at (picture s st) d h F acc ans) ≡ M.inside e (M.at s st d h f acc ans)
       rel_here e g = rel_inside e (rel_end limited within g)
 
-      go : (x : Bool) → S.Accepted (pick x (M.on_line s (M.as_heard st l) st) (refused 1))
+      go : (x : Bool) → S.Accepted (pick x (M.on_line s (M.as_heard st l) st) (refused WrongState))
           → pick x (is_taken (step 1024 (picture s st) (as_heard (picture s st) ev))) false ≡ true
       go true k = ap is_taken (step_picture s limited st within (as_heard (picture s st) ev) ∙ (wire_heard s st l v).says s st) ∙ taken_of k
       go false k = taken_of k

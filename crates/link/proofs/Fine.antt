@@ -13,6 +13,7 @@ use Rattle.frame.specs.Message.{lacks}
 use Rattle.frame.specs.Writing.{Allowed, fault_in, wrong_sender, wrong_data}
 use Rattle.book.specs.declared.Terms.{Terms}
 use Rattle.book.specs.Sound.{within_limits}
+use Rattle.book.specs.declared.Refusal.{Refusal}
 use Rattle.book.specs.Book.{Body, Msg, plain, sure, Kind, ok, not_ok, unknown, Frame, msg, note, Reading, bad, good, Line, start, reply, dat, fin, fin_ok, cut, Result, Out, give, answer, ended, gone, seen, send, State, idle, single, multi, ending, assoc, Setup, Outcome, refused, done, settled, ids_of, body_of, without, ack, ack_body, local, unsure, refuse_all, with_seen, fall, quiet_fall, vet, bar, on_single, on_multi, on_shot, on_vetted, on_request, on_end, on_tick, greet, first_contact, on_start, answered_by, begun, on_reply, noted, on_dat, on_fin, on_fin_ok, on_abort}
 use Rattle.book.specs.View.{frame_message}
 use Rattle.sound_laws.proofs.Within.{Rated, Within, in_multi, Limited, Keepable, both_right}
@@ -51,7 +52,7 @@ pub data AllFine : List Out → Type 0 where
   also : {o : Out} {os : List Out} → FineOut o → AllFine os → AllFine (o ∷ os)
 
 pub data FineOutcome : Outcome → Type 0 where
-  barred : {n : ℕ} → FineOutcome (refused n)
+  barred : {n : Refusal} → FineOutcome (refused n)
   fine_done : {st : State} {os : List Out} → AllFine os → FineOutcome (done st os)
 
 -- a frame that was read is allowed; a fault is none
@@ -147,7 +148,7 @@ module _ (a : Terms) (rated : Rated (settled a)) (m : Msg) (al : AllowedFrame (m
   single_fine (ending T w t) = barred
   single_fine (assoc T w t) = barred
 
-  multi_fine : (b : Option ℕ) (st : State) → FineOutcome (on_multi b a m st)
+  multi_fine : (b : Option Refusal) (st : State) → FineOutcome (on_multi b a m st)
   unfolding on_multi
   multi_fine b idle = one (sends (starts rated nothing))
   multi_fine b (single T w t) = barred

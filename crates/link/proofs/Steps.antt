@@ -15,6 +15,8 @@ use Rattle.frame.specs.Reading.{octet}
 use Rattle.book.specs.declared.Terms.{Terms}
 use Rattle.book.specs.declared.Event.{Event}
 use Rattle.book.specs.declared.Event.TheVariants.{Malformed, Transfer, End as Ending, Tick}
+use Rattle.book.specs.declared.Refusal.TheVariants.{BadFrame, NoEvent}
+use Rattle.book.specs.declared.Refusal.{Refusal}
 use Rattle.book.specs.Book.{Msg, plain, sure, msg, note, Reading, bad, good, Line, start, reply, dat, fin, fin_ok, cut, lost, State, idle, single, multi, ending, assoc, Setup, Outcome, refused, ids_of, vet, late, on_vetted, on_request, on_end, on_tick}
 use Rattle.book.specs.View.{reading_in, frame_octets}
 use Rattle.book.specs.Picture.{picture}
@@ -206,7 +208,7 @@ unfolding M.silent
 silent_heard A a r = r
 
 -- a refused request changes nothing
-ask_refused : (xs : List Extension) (new : List ℕ) (b c : Bool) (n : ℕ) (W : World) → ask_with xs new b c (refused n) W ≡ W
+ask_refused : (xs : List Extension) (new : List ℕ) (b c : Bool) (n : Refusal) (W : World) → ask_with xs new b c (refused n) W ≡ W
 unfolding act act_there
 ask_refused xs new true c n W = refl
 ask_refused xs new false true n W = refl
@@ -223,7 +225,7 @@ heard_of : (f : List ℕ) → ((i : ℕ) → octet f i < 256) → (r : Reading) 
 heard_of f h (bad n) e = faulty
 heard_of f h (good g n) e = whole (read_allowed f g n h e)
 
-request_none : (c : Bool) (a : Terms) (r : Reading) (st : State) → vet c r ≡ None → on_request c a r st ≡ refused 2
+request_none : (c : Bool) (a : Terms) (r : Reading) (st : State) → vet c r ≡ None → on_request c a r st ≡ refused BadFrame
 unfolding on_request on_vetted
 request_none c a r st e = rw e
 
@@ -283,7 +285,7 @@ module _ (xs : List Extension) (ev : List ℕ) (isSmall : (i : ℕ) → octet ev
       w : M.World
       w = M.world (M.at s st d h f acc ans) b p q next
 
-      refused_2 : vet c (reading_in (drop 4 ev)) ≡ None → on_request c a (reading_in (drop 4 ev)) st ≡ refused 2
+      refused_2 : vet c (reading_in (drop 4 ev)) ≡ None → on_request c a (reading_in (drop 4 ev)) st ≡ refused BadFrame
       refused_2 z = request_none c a (reading_in (drop 4 ev)) st z
 
       asking : (m : Msg) → vet c (reading_in (drop 4 ev)) ≡ Some m
@@ -293,7 +295,7 @@ module _ (xs : List Extension) (ev : List ℕ) (isSmall : (i : ℕ) → octet ev
 
       go : (o : Option Msg) → vet c (reading_in (drop 4 ev)) ≡ o
           → Follows (ask_with xs (asks_for ev) (M.busy st) (M.start_comes q) (on_request c a (reading_in (drop 4 ev)) st) W) w
-      go None z = stays (rw (refused_2 z, ask_refused xs (asks_for ev) (M.busy st) (M.start_comes q) 2 W) (of_near (near i y g t u v)))
+      go None z = stays (rw (refused_2 z, ask_refused xs (asks_for ev) (M.busy st) (M.start_comes q) BadFrame W) (of_near (near i y g t u v)))
       go (Some m) z = goes_on (M.request c (count xs) a (reading_in (drop 4 ev))) (asking m z)
 
 -- ---- 03, 04, and what is no event
@@ -332,7 +334,7 @@ module _ (xs : List Extension) (ev : List ℕ) {s : Setup} {st : State} where
   rel_nonsense : event_of ev ≡ Malformed → {W : World} {w : M.World} → Near s st W w → Follows (ask_near xs ev W) w
   unfolding ask_near does act
   rel_nonsense e (near {d} {k = h} {F} {f} {acc} {ans} {B} {b} {O} {I} {p} {i = q} {next} i y g t u v) =
-      rw (step_picture s i st y ev, e, ask_refused xs (asks_for ev) (busy (picture s st)) (start_comes I) 8 (world (at (picture s st) d h F acc ans) B O I next))
+      rw (step_picture s i st y ev, e, ask_refused xs (asks_for ev) (busy (picture s st)) (start_comes I) NoEvent (world (at (picture s st) d h F acc ans) B O I next))
       (stays (rel_same (leb (kind_of ev) 2) (of_near (near i y g t u v))))
     where
       rel_same : (b : Bool) {W : World} {w : M.World} → RelWorld W w → RelWorld (pick b W W) w

@@ -5,6 +5,8 @@ use mathlib.Core.Bool.{Bool, true, false}
 use mathlib.Core.List.{List, [], ◌∷◌}
 use Prim.Native.Nat.{ℕ}
 use native.Mathlib.Omega.{arith}
+use Rattle.book.specs.declared.Refusal.{Refusal}
+use Rattle.book.specs.declared.Refusal.TheVariants.{BadFrame}
 use Rattle.book.specs.Book.{Msg, refused, vet, on_vetted, on_shot, on_request, body_of, State, waiting_of, bar, late, Setup}
 use Rattle.book.specs.declared.Terms.{Terms}
 use Rattle.pair_laws.specs.Model.{Fields, Log, Queue, End, ask_with, asked_ids, busy, start_comes, act, act_there, World, world, at, swap, Act, request, end, tick, abort, deliver, Side, near, far, do_near, do_at, run, new_end, beginning, ask_near, tick_near, blank}
@@ -23,7 +25,7 @@ unfolding on_shot shot
 shot_is false a m u = refl
 shot_is true a m u = refl
 
-ask_refused : (x : Fields) (new : List ℕ) (i c : Bool) (n : ℕ) (w : World) → ask_with x new i c (refused n) w ≡ w
+ask_refused : (x : Fields) (new : List ℕ) (i c : Bool) (n : Refusal) (w : World) → ask_with x new i c (refused n) w ≡ w
 unfolding ask_with act act_there
 ask_refused x new true c n w = refl
 ask_refused x new false true n w = refl
@@ -34,7 +36,7 @@ inv_vetted : (x : Fields) (a : Terms) (o : Option Msg) {s : Setup} {u : State} {
     Inv (world (at s u d h f acc ans) b out inn next) →
     Inv (ask_with x (asked_ids o) (busy u) (start_comes inn) (on_vetted a o u) (world (at s u d h f acc ans) b out inn next))
 unfolding asked_ids on_vetted ask_at
-inv_vetted x a None {u} {inn} i = rw (ask_refused x [] (busy u) (start_comes inn) 2) i
+inv_vetted x a None {u} {inn} i = rw (ask_refused x [] (busy u) (start_comes inn) BadFrame) i
 inv_vetted x a (Some m) {u} i = rw (shot_is (body_of m).maintained a m u) (inv_ask (bar a m u) (body_of m).maintained x a m refl i)
 
 pub inv_near : (c : Act) (w : World) → Inv w → Inv (do_near c w)

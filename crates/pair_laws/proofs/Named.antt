@@ -4,6 +4,7 @@ use Rattle.std.specs.Prelude.{None, Option, Some}
 use mathlib.Core.Bool.{Bool, true, false}
 use mathlib.Core.List.{List, [], ◌∷◌}
 use Prim.Native.Nat.{ℕ, zero, suc}
+use Rattle.book.specs.declared.Refusal.{Refusal}
 use Rattle.book.specs.Book.{Body, Msg, plain, sure, Kind, Frame, msg, note, Reading, bad, good, Line, start, reply, dat, fin, fin_ok, cut, lost, Result, Out, give, answer, ended, gone, seen, send, State, idle, single, multi, ending, assoc, Setup, Outcome, refused, done, body_of, ids_of, without, local, unsure, refuse_all, with_seen, fall, quiet_fall, vet, bar, on_single, on_multi, on_shot, on_vetted, on_request, on_end, on_tick, greet, first_contact, on_start, answered_by, begun, on_reply, noted, on_dat, on_fin, on_fin_ok, on_abort}
 use Rattle.book.specs.declared.Terms.{Terms}
 use Rattle.pair_laws.specs.Model.{World, world, at, as_heard, on_line}
@@ -27,7 +28,7 @@ pub data AllNamed : List Out → Type 0 where
   n_also : {o : Out} {os : List Out} → NamedOut o → AllNamed os → AllNamed (o ∷ os)
 
 pub data NamedOutcome : Outcome → Type 0 where
-  n_refused : {n : ℕ} → NamedOutcome (refused n)
+  n_refused : {n : Refusal} → NamedOutcome (refused n)
   n_done : {st : State} {os : List Out} → AllNamed os → NamedOutcome (done st os)
 
 one : {st : State} {o : Out} → NamedOut o → NamedOutcome (done st (o ∷ []))
@@ -67,7 +68,7 @@ shot_named false a m (ending T w t) = n_refused
 shot_named false a m (assoc T w t) = n_refused
 shot_named true a m st = multi_named (bar a m st) st
   where
-    multi_named : (b : Option ℕ) (st : State) → NamedOutcome (on_multi b a m st)
+    multi_named : (b : Option Refusal) (st : State) → NamedOutcome (on_multi b a m st)
     multi_named b idle = one n_send
     multi_named b (single T w t) = n_refused
     multi_named b (multi T k t) = n_refused

@@ -7,6 +7,7 @@ use mathlib.Core.List.{List, [], ◌∷◌, ◌++◌, append-nil, append_assoc}
 use Prim.Native.Nat.{ℕ, suc, ◌<◌}
 use native.Mathlib.Omega.{arith}
 use native.Mathlib.Nat.{le_refl}
+use Rattle.book.specs.declared.Refusal.{Refusal}
 use Rattle.book.specs.Book.{good, body_of, settled, Msg, msg, start, reply, State, single, multi, Setup, Outcome, ids_of, waiting_of, on_single, on_multi}
 use Rattle.book.specs.declared.Terms.{Terms}
 use Rattle.pair_laws.specs.Model.{Fields, Log, blank, log_handed, log_sent, log_out, log_all, answers, Queue, at, World, world, update, busy, post, carry, emit, act, silent, fresh, is_start, start_comes, ask_with, act_there, extended, with_fields, log_read}
@@ -82,15 +83,15 @@ begin_multi {f} {g} {next} o m a k p q eo =
     (omega arith) (λ z. omega (arith, k.below)) p (first_owed m q) eo
 
 -- what a request does, by whether it is maintained and by the refusal that it meets in Associated, if any
-unfoldable pub shot : (bar : Option ℕ) (maintained : Bool) → Terms → Msg → State → Outcome
+unfoldable pub shot : (bar : Option Refusal) (maintained : Bool) → Terms → Msg → State → Outcome
 shot c false a m st = on_single a m st
 shot c true a m st = on_multi c a m st
 
-unfoldable pub ask_at : (bar : Option ℕ) (maintained : Bool) (x : Fields) → Terms → Msg → World → World
+unfoldable pub ask_at : (bar : Option Refusal) (maintained : Bool) (x : Fields) → Terms → Msg → World → World
 ask_at c k x a m (world (at s u d h f acc ans) b out inn next) =
     ask_with x (ids_of m) (busy u) (start_comes inn) (shot c k a m u) (world (at s u d h f acc ans) b out inn next)
 
-pub inv_ask : (c : Option ℕ) (k : Bool) (x : Fields) (a : Terms) (m : Msg) → (body_of m).maintained ≡ k → {w : World} → Inv w → Inv (ask_at c k x a m w)
+pub inv_ask : (c : Option Refusal) (k : Bool) (x : Fields) (a : Terms) (m : Msg) → (body_of m).maintained ≡ k → {w : World} → Inv w → Inv (ask_at c k x a m w)
 unfolding ask_at shot ask_with act_there busy extended with_fields on_single on_multi fresh start_comes is_start act silent log_all log_out log_sent emit carry post answers waiting_of tail log_read wire
 inv_ask c false x o m sh (talking up b f e v k p q) = talking up b f e v k p q
 inv_ask (Some n) true x o m sh (talking up b f e v k p q) = talking up b f e v k p q

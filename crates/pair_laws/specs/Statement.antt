@@ -2,6 +2,7 @@
 use Rattle.std.specs.Prelude.{◌≡◌, Bool, true, false, ℕ}
 use mathlib.Core.List.{List, [], ◌∷◌, ◌++◌, Memᴰ}
 use Rattle.octets.specs.Choice.{pick, both, either}
+use Rattle.book.specs.declared.Refusal.TheVariants.{WrongState}
 use Rattle.book.specs.Book.{Msg, ids_of, Out, State, idle, Setup, Outcome, refused, done}
 use Rattle.pair_laws.specs.Model.{Fate, going, asked, granted, turned, broken, Log, Queue, at, World, world, swap, inside, is_start, on_line, as_heard, Side, Act, run, beginning}
 
@@ -95,7 +96,7 @@ pub data Accepted : Outcome → Type 0 where
 unfoldable pub answer_to_next : World → Outcome
 answer_to_next (world (at s u d h f acc ans) b out [] next) = done u []
 answer_to_next (world (at s u d h f acc ans) b out (l ∷ inn) next) =
-    pick (either (is_start l.1) (inside l.0 (at s u d h f acc ans))) (on_line s (as_heard u l.1) u) (refused 1)
+    pick (either (is_start l.1) (inside l.0 (at s u d h f acc ans))) (on_line s (as_heard u l.1) u) (refused WrongState)
 
 -- After every run, at both ends: each line that the link delivers is taken, and none comes to an end that has left its dialogue.
 abbrev pub AlwaysTaken : Type 0

@@ -8,6 +8,7 @@ use native.Mathlib.Omega.{arith}
 use lib.ListN.{length}
 use Rattle.octets.specs.Choice.{pick}
 use Rattle.book.specs.declared.Terms.{Terms}
+use Rattle.book.specs.declared.Refusal.{Refusal}
 use Rattle.book.specs.Book.{Msg, plain, sure, Kind, unknown, Frame, msg, note, Reading, bad, good, start, reply, dat, fin, fin_ok, cut, uncertain, Out, give, answer, ended, gone, send, State, idle, single, multi, ending, assoc, Setup, Outcome, refused, done, settled, ids_of, waiting_of, without, body_of, ack, local, fall, quiet_fall, vet, bar, on_single, on_multi, on_shot, on_vetted, on_request, on_end, on_tick, greet, first_contact, on_start, result_of, single_result, answered_by, begun, on_reply, noted, on_dat, on_fin, on_fin_ok, on_abort}
 use Rattle.book.specs.View.{msg_octets, frame_octets, frame_message}
 use Rattle.book.specs.Lines.{line_of, laid_out, read_octets, held_octets}
@@ -15,7 +16,7 @@ use Rattle.room_laws.proofs.Widths.{Within, nothing, line, local_short, ack_shor
 
 -- a refusal, or lines that the buffer holds
 pub data Fits : Outcome → Type 0 where
-  barred : {n : ℕ} → Fits (refused n)
+  barred : {n : Refusal} → Fits (refused n)
   fits : {st : State} {os : List Out} {n k : ℕ} → Within os n k → n ≤ 1024 → k ≤ 10 → Fits (done st os)
 
 pub fits_pick : (b : Bool) {x y : Outcome} → Fits x → Fits y → Fits (pick b x y)
@@ -63,7 +64,7 @@ module _ (a : Terms) (m : Msg) (h : length (frame_octets (msg m)) ≤ 554) where
   single_fits (ending T w t) = barred
   single_fits (assoc T w t) = barred
 
-  multi_fits : (b : Option ℕ) (st : State) → Fits (on_multi b a m st)
+  multi_fits : (b : Option Refusal) (st : State) → Fits (on_multi b a m st)
   unfolding on_multi
   multi_fits b idle = one (send (start (settled a) None)) 4 (omega arith) (omega arith)
   multi_fits b (single T w t) = barred

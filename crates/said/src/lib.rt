@@ -4,53 +4,43 @@
 ghost use Rattle.std.specs.Prelude.{◌≡◌, ◌+◌, ◌≤◌, eqb, length, drop, replicate};
 ghost use Rattle.std.proofs.lemmas.List.Edits.{sets};
 ghost use Rattle.octets.specs.Choice.{pick};
-ghost use Rattle.frame.specs.Encoding.{weight, type_octets};
-ghost use Rattle.frame.specs.Decoding.{octet_in};
-ghost use Rattle.book.specs.Book.{same_terms, settled};
+ghost use Rattle.frame.specs.Encoding.{type_octets};
+ghost use Rattle.book.specs.Book.{settled};
 ghost use Rattle.said.specs.Notes.{AckOf};
 
 use book::Terms;
-use frame::{Header, OneOctet};
+use frame::Header;
 
 // Where the next line goes, and how many lines stand before it.
-#[derive(Clone, Copy)]
+#[derive(Clone, Copy, PartialEq, Eq, Default)]
 pub struct Pen {
     pub at: usize,
     pub lines: usize,
 }
 
-// What a confirmation that the unit makes itself says beside the unit's name.
-#[derive(Clone, Copy)]
+// What a confirmation that the unit makes itself says beside the unit's name. Here and in Say a confirmation and a result are the octets that the line
+// carries: an enum between would be turned into them at once, and no line would be plainer.
+#[derive(Clone, Copy, PartialEq, Eq)]
 pub struct Note {
     pub multi_shot: bool,
     pub confirmation: u8,
-    pub message_type: OneOctet,
+    pub message_type: Option<u8>,
     pub reference: u16,
 }
 
 // What all the answers of one event say beside the identifier.
-#[derive(Clone, Copy)]
+#[derive(Clone, Copy, PartialEq, Eq)]
 pub struct Say {
     pub result: u8,
     pub multi_shot: bool,
     pub confirmation: u8,
 }
 
-// A bit as a number: the multiShot bit of a note, the confirmation that a request's frame has.
-pub fn bit_of(b: bool) -> u8
-    ensures { (result ≡ weight b 1) × (result ≤ 1) }
-{
-    if b { 1 } else { 0 }
-}
-
 // How many octets a note has before its name.
-pub fn before_name(message_type: OneOctet) -> usize
-    ensures { (result ≡ 5 + length (type_octets (octet_in message_type))) × (result ≤ 6) }
+pub fn before_name(message_type: Option<u8>) -> usize
+    ensures { (result ≡ 5 + length (type_octets message_type)) × (result ≤ 6) }
 {
-    let OneOctet::Octet(_) = message_type else {
-        return 5;
-    };
-    6
+    5 + usize::from(message_type.is_some())
 }
 
 // 0 for confirmedOk, else 1.
@@ -61,56 +51,34 @@ pub fn result_of(confirmation: u8) -> u8
 }
 
 // The acknowledgement of a confirmed message, as a note.
+#[tactic(auto, unfolding(frame::specs::Decoding::message_at))]
 pub fn ack_of(frame: &[u8], h: Header) -> Note
     ensures { AckOf frame.now h result }
 {
-    let t = h.message_type;
-    let i = h.identifier;
-    let message_type = frame::one_octet(frame, t);
-    let reference = state::needed_value(frame::two_octets(frame, i));
     Note {
         multi_shot: h.multi_shot,
         confirmation: 2,
-        message_type: message_type,
-        reference: reference,
+        message_type: frame::one_octet(frame, h.message_type),
+        reference: frame::two_octets(frame, h.identifier).unwrap_or(0),
     }
 }
 
 // RER 0 counts as low.
+#[tactic(auto, unfolding(book::specs::Book::settled))]
 pub fn settle(t: Terms) -> Terms
     ensures { result ≡ settled t }
 {
-    if t.rer == 0 {
-        return Terms {
-            class: t.class,
-            priority: t.priority,
-            rer: 1,
-        };
+    match t.rer {
+        0 => Terms { rer: 1, ..t },
+        _ => t,
     }
-    t
-}
-
-// Whether terms are the same.
-pub fn alike(a: Terms, b: Terms) -> bool
-    ensures { result ≡ same_terms a b }
-{
-    if a.class == b.class {
-        if a.priority == b.priority {
-            return a.rer == b.rer;
-        }
-        return false;
-    }
-    false
 }
 
 // An event without its first octets; nothing where it has no more.
 pub fn after(event: &[u8], from: usize) -> &[u8]
     ensures { result.now ≡ drop from event.now }
 {
-    if event.len() < from {
-        return &event[..0];
-    }
-    &event[from..]
+    event.get(from..).unwrap_or(&[])
 }
 
 // A name at the front of an array of 0; what finds no room is left out.

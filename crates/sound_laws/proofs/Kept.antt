@@ -13,6 +13,7 @@ use Rattle.octets.specs.Choice.{pick, both}
 use Rattle.frame.specs.Reading.{octet}
 use Rattle.frame.specs.Writing.{Allowed}
 use Rattle.book.specs.Sound.{sound_of, within_limits}
+use Rattle.book.specs.declared.Refusal.TheVariants.{NoRoom, Unsound}
 use Rattle.book.specs.Book.{Msg, Out, State, idle, multi, Setup, Outcome, refused, done}
 use Rattle.book.specs.View.{reading_in, msg_message}
 use Rattle.book.specs.Picture.{picture, setup_of, state_of, state_at, kept_of}
@@ -145,7 +146,7 @@ kept room u ev st os s wide eight long small h e =
     let f = drop (frame_from (event_of ev)) ev in
     let k = keeps_all c (positive c o) (event_of ev) f (state_of u) (fit ev) (small_rest (frame_from (event_of ev)) ev h) (unit_within u s wide eight long small) in
     let x = does c (event_of ev) f (state_of u) in
-    let t = keeps_pick c (ltb room 1024) {x = refused 6} refuses (keeps_pick c (sound_of u) {x = x} {y = refused 9} k refuses) in
+    let t = keeps_pick c (ltb room 1024) {x = refused NoRoom} refuses (keeps_pick c (sound_of u) {x = x} {y = refused Unsound} k refuses) in
     pictures_sound c st o (kept_state c _ st os t e)
 
 unit_after : (u : Value) (o : Outcome) → sound_of u ≡ true → ((st : State) (os : List Out) → o ≡ done st os → sound_of (picture (setup_of u) st) ≡ true)

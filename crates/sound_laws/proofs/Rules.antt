@@ -12,6 +12,8 @@ use Rattle.octets.specs.Choice.{pick, either}
 use Rattle.frame.specs.Writing.{Allowed}
 use Rattle.frame.specs.Reading.{octet}
 use Rattle.book.specs.Sound.{differ}
+use Rattle.book.specs.declared.Refusal.TheVariants.{OtherTerms, Waits, Full}
+use Rattle.book.specs.declared.Refusal.{Refusal}
 use Rattle.book.specs.Book.{Msg, plain, sure, msg, note, Reading, bad, good, Out, State, idle, single, multi, ending, assoc, Setup, Outcome, refused, done, same_terms, settled, ids_of, body_of, waits, full, without, without_in, left_waiting, fall, quiet_fall, vet, bar, bar_confirmed, on_single, on_multi, on_shot, on_vetted, on_request, on_end, late, on_tick, greet, first_contact, on_start, begun, on_reply, on_dat, on_fin, on_fin_ok, on_abort}
 use Rattle.book.specs.View.{reading_in, msg_message, frame_message}
 use Rattle.book.specs.declared.Terms.{Terms}
@@ -20,7 +22,7 @@ use Rattle.sound_laws.proofs.Within.{Within, in_idle, in_single, in_multi, in_en
 
 -- an outcome whose state is within its limits
 pub data Keeps (s : Setup) : Outcome → Type 0 where
-  refuses : {n : ℕ} → Keeps s (refused n)
+  refuses : {n : Refusal} → Keeps s (refused n)
   goes : {st : State} {os : List Out} → Within s st → Keeps s (done st os)
 
 pub kept_state : (s : Setup) (o : Outcome) (st : State) (os : List Out) → Keeps s o → o ≡ done st os → Within s st
@@ -100,7 +102,7 @@ differ_after i (x ∷ w) e q =
     (differ_after i w (both_right (not (waits x w)) (differ w) e) (either_right (eqb i x) (waits i w) q))
 
 -- what no refusal 3, 4 or 5 says
-free : (x y z : Bool) → ◌≡◌ {A = Option ℕ} (pick x (pick y (Some 4) (pick z (Some 5) None)) (Some 3)) None → (y ≡ false) × (z ≡ false)
+free : (x y z : Bool) → ◌≡◌ {A = Option Refusal} (pick x (pick y (Some Waits) (pick z (Some Full) None)) (Some OtherTerms)) None → (y ≡ false) × (z ≡ false)
 free false y z e = let z : ◌≡◌ {A = ℕ} 0 1 = cc in absurd (omega arith)
 free true true z e = let z : ◌≡◌ {A = ℕ} 0 1 = cc in absurd (omega arith)
 free true false true e = let z : ◌≡◌ {A = ℕ} 0 1 = cc in absurd (omega arith)
@@ -157,7 +159,7 @@ module _ (s : Setup) (p : Positive s) where
   keeps_single a m (ending T w t) h = refuses
   keeps_single a m (assoc T w t) h = refuses
 
-  keeps_multi : (b : Option ℕ) (a : Terms) (m : Msg) (st : State) → bar a m st ≡ b → a.rer ≤ 2 → Keepable m → Within s st → Keeps s (on_multi b a m st)
+  keeps_multi : (b : Option Refusal) (a : Terms) (m : Msg) (st : State) → bar a m st ≡ b → a.rer ≤ 2 → Keepable m → Within s st → Keeps s (on_multi b a m st)
   unfolding on_multi
   keeps_multi b a m idle e h k w = goes (in_multi (settled_rated a h) k p.start)
   keeps_multi b a m (single T w t) e h k x = refuses

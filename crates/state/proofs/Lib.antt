@@ -1,7 +1,7 @@
 pub mod Scan
 pub mod WaitingLaws
 pub mod Table
-pub mod EventLaws
 pub mod KeptLaws
 pub mod Sounds
+pub mod SoundImage
 pub mod OneResult

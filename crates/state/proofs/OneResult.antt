@@ -2,10 +2,8 @@
 -- drift from the source.
 use mathlib.Core.Path.{sym, ◌∙◌}
 use Rattle.octets.specs.Contract.{Leaves}
-use Rattle.state.proofs.needed_value.Reads as needed-value
 use Rattle.state.proofs.events.event_of.Reads as event-of
 use Rattle.state.proofs.events.frame_from.Reads as frame-from
-use Rattle.state.proofs.sound.clear.Reads as clear
 use Rattle.state.proofs.sound.both.Reads as both
 use Rattle.state.proofs.sound.either.Reads as either
 use Rattle.state.proofs.sound.within_limits.Reads as within-limits
@@ -16,17 +14,11 @@ use Rattle.state.proofs.waiting.find.Reads as find
 use Rattle.state.proofs.waiting.without.Reads as without
 use Rattle.state.proofs.waiting.with_one.Reads as with-one
 
-pub one_needed_value : Leaves needed-value.Post (λ κs r e. r)
-one_needed_value κs a x y e f p q = p ∙ sym q
-
 pub one_event_of : Leaves event-of.Post (λ κs r e. r)
 one_event_of κs a x y e f p q = p ∙ sym q
 
 pub one_frame_from : Leaves frame-from.Post (λ κs r e. r)
 one_frame_from κs a x y e f p q = p ∙ sym q
-
-pub one_clear : Leaves clear.Post (λ κs r e. r)
-one_clear κs a x y e f p q = p ∙ sym q
 
 pub one_both : Leaves both.Post (λ κs r e. r)
 one_both κs a x y e f p q = p ∙ sym q
@@ -37,11 +29,12 @@ one_either κs a x y e f p q = p ∙ sym q
 pub one_within_limits : Leaves within-limits.Post (λ κs r e. r)
 one_within_limits κs a x y e f p q = p ∙ sym q
 
-pub one_limit_of : Leaves limit-of.Post (λ κs r e. r)
-one_limit_of κs a x y e f p q = p ∙ sym q
+-- of whatever a unit is held as
+pub one_limit_of : (S : _) (laws : _) (seen : _) (dict : _) → Leaves (limit-of.Post S laws seen dict) (λ κs r e. r)
+one_limit_of S laws seen dict κs a x y e f p q = p ∙ sym q
 
-pub one_sound : Leaves sound.Post (λ κs r e. r)
-one_sound κs a x y e f p q = p ∙ sym q
+pub one_sound : (S : _) (laws : _) (seen : _) (dict : _) → Leaves (sound.Post S laws seen dict) (λ κs r e. r)
+one_sound S laws seen dict κs a x y e f p q = p.0 ∙ sym q.0
 
 pub one_taken : Leaves taken.Post (λ κs r e. r)
 one_taken κs a x y e f p q = p ∙ sym q

@@ -1,104 +1,56 @@
--- The tests that go along a list: one step, and the end.
-use Prim.Native.Nat.{ℕ, ◌+◌, ◌-◌, ◌<◌, ◌≤◌}
-use mathlib.Core.Path.{◌≡◌, refl, ap, sym, ◌∙◌}
-use mathlib.Core.Bool.{Bool, true, false}
-use mathlib.Core.List.{List, [], ◌∷◌}
-use native.Mathlib.Numerals.{add-one}
-use native.Mathlib.Omega.{arith}
+-- The waiting list by its places: whether an identifier stands among some of them, and whether one stands there twice.
+use Rattle.std.proofs.Common.{ℕ, zero, suc, ◌+◌, ◌-◌, ◌<◌, ◌≤◌, ◌≡◌, refl, ap, sym, ◌∙◌, Bool, true, false, List, [], ◌∷◌, ◌||◌, length, take, drop, get_or, arith, drop-cons}
 use borrow.Author.Tests.{eq-eqb, ne_eqb, eqb-true, eqb-false}
 use lib.Dec.{eqb}
-use Rattle.octets.specs.Choice.{both}
-use lib.ListN.{length, take, drop, get_or, length-drop, drop_of_length-le}
-use lib.Seq.{drop-cons, take_all}
-use Rattle.book.specs.Sound.{zeros, differ}
+use Rattle.std.specs.List.{list_any, range_with_len, slice_range}
+use Rattle.octets.specs.Choice.{either}
+use Rattle.book.specs.Sound.{differ}
 use Rattle.book.specs.Book.{waits}
 
-pub at_end_lem : {B : Type 0} (f : List ℕ → B) (s : List ℕ) (i : ℕ) → length s ≤ i → f (drop i s) ≡ f []
-at_end_lem f s i h = rw (drop_of_length-le s {i = i} h)
-
-at_next : {B : Type 0} (f : List ℕ → B) (s : List ℕ) (i : ℕ) → i < length s → f (drop i s) ≡ f (get_or s i 0 ∷ drop (i + 1) s)
-at_next f s i h = rw (add-one, drop-cons s i 0 h)
-
--- the part of a slice from a place to its end
-pub to_end : (s : List ℕ) (a n : ℕ) → length s ≡ n → take (n - a) (drop a s) ≡ drop a s
-to_end s a n e = take_all (n - a) (drop a s) (omega (arith, length-drop a s))
-
--- what a test says of the part from a place to the end
-of_part : (f : List ℕ → Bool) (s : List ℕ) (a n : ℕ) {r b : Bool} → length s ≡ n → r ≡ f (take (n - a) (drop a s)) → r ≡ b → f (drop a s) ≡ b
-of_part f s a n k e t = sym (ap f (to_end s a n k)) ∙ sym e ∙ t
-
--- ---- every entry is 0
-
-pub zeros_stop : (s : List ℕ) (i : ℕ) → i < length s → (get_or s i 0 ≡ 0 → ⊥) → zeros (drop i s) ≡ zeros s → false ≡ zeros s
-zeros_stop s i h n e =
-    let z : zeros (drop i s) ≡ false = rw (at_next zeros s i h, ne_eqb (get_or s i 0) 0 n) in
-    sym z ∙ e
-
-pub zeros_go : (s : List ℕ) (i : ℕ) → i < length s → get_or s i 0 ≡ 0 → zeros (drop i s) ≡ zeros s → zeros (drop (i + 1) s) ≡ zeros s
-zeros_go s i h n e =
-    let z : zeros (drop (i + 1) s) ≡ zeros (drop i s) = rw (at_next zeros s i h, eq-eqb (get_or s i 0) 0 n) in
-    z ∙ e
-
-pub zeros_end : (s : List ℕ) (i : ℕ) → length s ≤ i → zeros (drop i s) ≡ zeros s → true ≡ zeros s
-zeros_end s i h e = sym (at_end_lem zeros s i h) ∙ e
-
--- the bits so far are 0, and all that is left
-pub rest_go : (s : List ℕ) (i m x : ℕ) → i < length s → m ≤ x → get_or s i 0 ≤ x → x ≤ m + get_or s i 0
-    → both (eqb m 0) (zeros (drop i s)) ≡ zeros s → both (eqb x 0) (zeros (drop (i + 1) s)) ≡ zeros s
-rest_go s i m x h p q r e = go (eqb m 0) refl (eqb (get_or s i 0) 0) refl ∙ rw (at_next zeros s i h) at e
+swapped : (a b : ℕ) → eqb a b ≡ eqb b a
+swapped a b = go (eqb b a) refl
   where
-    go : (a : Bool) → a ≡ eqb m 0 → (b : Bool) → b ≡ eqb (get_or s i 0) 0
-        → both (eqb x 0) (zeros (drop (i + 1) s)) ≡ both (eqb m 0) (both (eqb (get_or s i 0) 0) (zeros (drop (i + 1) s)))
-    go true u true v =
-        let y = eqb-true m 0 (sym u) in
-        let z = eqb-true (get_or s i 0) 0 (sym v) in
-        rw (← u, ← v, eq-eqb x 0 (omega arith))
-    go true u false v = let z = eqb-false (get_or s i 0) 0 (sym v) in rw (← u, ← v, ne_eqb x 0 (λ w. z (omega arith)))
-    go false u b v = let z = eqb-false m 0 (sym u) in rw (← u, ne_eqb x 0 (λ w. z (omega arith)))
+    go : (r : Bool) → r ≡ eqb b a → eqb a b ≡ r
+    go true e = eq-eqb a b (sym (eqb-true b a (sym e)))
+    go false e = ne_eqb a b (λ z. eqb-false b a (sym e) (sym z))
 
-pub rest_end : (s : List ℕ) (i m : ℕ) → length s ≤ i → both (eqb m 0) (zeros (drop i s)) ≡ zeros s → eqb m 0 ≡ zeros s
-rest_end s i m h e = go (eqb m 0) ∙ rw (at_end_lem zeros s i h) at e
-  where
-    go : (a : Bool) → a ≡ both a true
-    go true = refl
-    go false = refl
+either_or : (a b : Bool) → (a || b) ≡ either a b
+either_or true b = refl
+either_or false b = refl
 
--- the places from n on, as a slice to the end
-pub zeros_part : (s : List ℕ) (a n : ℕ) {r : Bool} → length s ≡ n → r ≡ zeros (take (n - a) (drop a s)) → r ≡ zeros (drop a s)
-zeros_part s a n k e = e ∙ ap zeros (to_end s a n k)
+-- the places from i to n begin with i
+next : (w : List ℕ) (i n : ℕ) → i < n → n ≤ length w → slice_range w i n ≡ get_or w i 0 ∷ slice_range w (i + 1) n
+next w i n h m =
+    let e : n - i ≡ suc (n - (i + 1)) = omega arith in
+    let d : i + 1 ≡ suc i = omega arith in
+    rw (e, d, drop-cons w i 0 (omega arith))
 
-pub zeros_past : (s : List ℕ) (a n : ℕ) → length s ≡ n → n < a → true ≡ zeros (drop a s)
-zeros_past s a n e h = sym (at_end_lem zeros s a (omega arith))
+none : (w : List ℕ) (i n : ℕ) → n ≤ i → slice_range w i n ≡ []
+none w i n h = let e : n - i ≡ 0 = omega arith in rw e
 
--- ---- an entry is there
+pub is_among : (w : List ℕ) (y i n k : ℕ) → n ≤ length w → n - i ≡ k → list_any (λ j. eqb (get_or w j 0) y) (range_with_len i k) ≡ waits y (slice_range w i n)
+is_among w y i n zero m e = ap (waits y) (sym (none w i n (omega arith)))
+is_among w y i n (suc k) m e =
+    either_or (eqb (get_or w i 0) y) _
+    ∙ ap (λ b. either b (list_any (λ j. eqb (get_or w j 0) y) (range_with_len (i + 1) k))) (swapped (get_or w i 0) y)
+    ∙ ap (either (eqb y (get_or w i 0))) (is_among w y (i + 1) n k m (omega arith))
+    ∙ ap (waits y) (sym (next w i n (omega arith) m))
 
-pub waits_stop : (s : List ℕ) (y i : ℕ) → i < length s → get_or s i 0 ≡ y → waits y (drop i s) ≡ waits y s → true ≡ waits y s
-waits_stop s y i h n e =
-    let z : waits y (drop i s) ≡ true = rw (at_next (waits y) s i h, eq-eqb y (get_or s i 0) (sym n)) in
-    sym z ∙ e
+-- ---- along the list: what is left of it answers as the whole
 
-pub waits_go : (s : List ℕ) (y i : ℕ) → i < length s → (get_or s i 0 ≡ y → ⊥) → waits y (drop i s) ≡ waits y s → waits y (drop (i + 1) s) ≡ waits y s
-waits_go s y i h n e =
-    let z : waits y (drop (i + 1) s) ≡ waits y (drop i s) = rw (at_next (waits y) s i h, ne_eqb y (get_or s i 0) (λ q. n (sym q))) in
-    z ∙ e
+module _ (w : List ℕ) (i n : ℕ) {id : ℕ} {r : Bool} (m : n ≤ length w) (inv : differ (slice_range w i n) ≡ differ (take n w)) (h : i < n) (e : id ≡ get_or w i 0)
+    (q : r ≡ waits id (slice_range w (i + 1) n)) where
+  pub differ_stop : r ≡ true → false ≡ differ (take n w)
+  differ_stop t =
+      let a : waits (get_or w i 0) (slice_range w (i + 1) n) ≡ true = ap (λ v. waits v (slice_range w (i + 1) n)) (sym e) ∙ sym q ∙ t in
+      let k : differ (slice_range w i n) ≡ false = ap differ (next w i n h m) ∙ rw a in
+      sym k ∙ inv
 
-pub waits_end : (s : List ℕ) (y i : ℕ) → length s ≤ i → waits y (drop i s) ≡ waits y s → false ≡ waits y s
-waits_end s y i h e = sym (at_end_lem (waits y) s i h) ∙ e
+  pub differ_on : r ≡ false → differ (slice_range w (i + 1) n) ≡ differ (take n w)
+  differ_on t =
+      let a : waits (get_or w i 0) (slice_range w (i + 1) n) ≡ false = ap (λ v. waits v (slice_range w (i + 1) n)) (sym e) ∙ sym q ∙ t in
+      let k : differ (slice_range w i n) ≡ differ (slice_range w (i + 1) n) = ap differ (next w i n h m) ∙ rw a in
+      sym k ∙ inv
 
--- ---- no entry stands twice; r says whether an entry stands in the part after it
-
-module _ (s : List ℕ) (i : ℕ) (h : i < length s) {r : Bool} (m : r ≡ waits (get_or s i 0) (take (length s - (i + 1)) (drop (i + 1) s))) where
-  pub differ_stop : r ≡ true → differ (drop i s) ≡ differ s → false ≡ differ s
-  differ_stop t e =
-      let q = of_part (waits (get_or s i 0)) s (i + 1) (length s) refl m t in
-      let z : differ (drop i s) ≡ false = rw (at_next differ s i h, q) in
-      sym z ∙ e
-
-  pub differ_go : r ≡ false → differ (drop i s) ≡ differ s → differ (drop (i + 1) s) ≡ differ s
-  differ_go t e =
-      let q = of_part (waits (get_or s i 0)) s (i + 1) (length s) refl m t in
-      let z : differ (drop (i + 1) s) ≡ differ (drop i s) = rw (at_next differ s i h, q) in
-      z ∙ e
-
-pub differ_end : (s : List ℕ) (i : ℕ) → length s ≤ i → differ (drop i s) ≡ differ s → true ≡ differ s
-differ_end s i h e = sym (at_end_lem differ s i h) ∙ e
+pub differ_end : (w : List ℕ) (i n : ℕ) → differ (slice_range w i n) ≡ differ (take n w) → n ≤ i → true ≡ differ (take n w)
+differ_end w i n inv h = sym (ap differ (none w i n h)) ∙ inv

@@ -2,13 +2,11 @@
 use mathlib.Core.Path.{◌≡◌, refl, ◌∙◌, subst, sym}
 use mathlib.Core.Bool.{Bool, true, false}
 use mathlib.Core.List.{List, [], ◌∷◌}
-use Prim.Native.Nat.{ℕ, zero, suc, ◌+◌, ◌<◌, ◌≤◌}
+use Prim.Native.Nat.{ℕ, zero, suc, ◌+◌, ◌<◌}
 use native.Mathlib.Nat.{add-zero, zero-add, add-suc, suc-add, le_of_suc-le-suc, not-suc-le-zero}
-use borrow.Author.Tests.{le-ltb}
-use lib.Dec.{T, eqb, ltb, eqb→eq}
+use lib.Dec.{T, eqb, eqb→eq}
 use lib.ListN.{length, get_or}
 use Rattle.octets.specs.Choice.{both}
-use Rattle.book.specs.Turns.{takes}
 
 both_left : (a b : Bool) → T (both a b) → T a
 both_left true b t = tt
@@ -60,17 +58,3 @@ module _ (g : ℕ → ℕ → Bool) (n : ℕ) where
       let e : length xs ≡ n = eqb→eq (length xs) n (both_left (eqb (length xs) n) (every (entry s) 0 0 xs) r) in
       alike_eq (eqb (get_or xs k 0) 1) (g s k)
       (at (entry s) 0 xs (both_right (eqb (length xs) n) (every (entry s) 0 0 xs) r) k (subst (λ (m : ℕ). k < m) (sym e) hk))
-
--- ---- outside the table
-
-pub no_state : (s k : ℕ) → 5 ≤ s → false ≡ takes s k
-unfolding takes
-no_state s k h = rw (le-ltb s 5 h)
-
-nothing : (b : Bool) → both b false ≡ false
-nothing true = refl
-nothing false = refl
-
-pub no_column : (s k : ℕ) → 11 ≤ k → false ≡ takes s k
-unfolding takes
-no_column s k h = rw (le-ltb k 11 h) (sym (nothing (ltb s 5)))

@@ -1,39 +1,72 @@
--- The waiting list in its array: one law for each way out, and each step of a loop.
-use Prim.Native.Nat.{ℕ, suc, ◌+◌, ◌<◌, ◌≤◌}
-use mathlib.Core.Path.{◌≡◌, sym, ◌∙◌}
+-- The waiting list in its array: what std's words for a search and a copy say of it, and each step of a loop.
+use Rattle.std.specs.Prelude.{None, Some}
+use Rattle.std.specs.List.{copy_within, position, position_from}
+use Rattle.std.proofs.lemmas.Iterator.Adapters.{position_from-zero}
+use Rattle.std.proofs.lemmas.List.Edits.{paste_all}
+use Prim.Native.Nat.{ℕ, suc, ◌+◌, ◌-◌, ◌<◌, ◌≤◌}
+use mathlib.Core.Path.{◌≡◌, refl, ap, sym, ◌∙◌}
+use mathlib.Core.Bool.{Bool, true, false, cond}
 use mathlib.Core.List.{List, [], ◌∷◌, ◌++◌, append_assoc}
 use native.Mathlib.Numerals.{add-one}
 use native.Mathlib.Omega.{arith}
-use borrow.Author.Tests.{eq-eqb, ne_eqb, lt-ltb, le-ltb}
+use borrow.Author.Tests.{eq-eqb, ne_eqb, lt-ltb}
 use lib.Dec.{eqb}
-use lib.ListN.{length, take, drop, get_or, set, length-take, drop_of_length-le}
-use lib.Seq.{drop-cons, take-suc-set, drop-set-lt, set_split, set_out, get_or-take}
+use lib.ListN.{length, take, drop, get_or, set, length-append, length-take, length-drop, drop_of_length-le}
+use lib.Seq.{drop-cons, set-append_seam, take-suc-set, drop-set-lt, set_split, get_or-take}
 use Rattle.octets.specs.Choice.{pick}
 use Rattle.book.specs.Waiting.{place_of, closed}
-use Rattle.book.specs.declared.Found.TheVariants.{Place, Nowhere}
 
 -- ---- find
 
-module _ (x i n : ℕ) (w : List ℕ) (e : place_of x i (drop i (take n w)) ≡ place_of x 0 (take n w)) where
-  pub find_past : n ≤ i → Nowhere ≡ place_of x 0 (take n w)
-  find_past h =
-      let z : place_of x i (drop i (take n w)) ≡ Nowhere = rw (drop_of_length-le (take n w) {i = i} (simp length-take (omega arith))) in
-      sym z ∙ e
+either_word : {A : Type 0} (b : Bool) (s t : A) → cond b s t ≡ pick b s t
+either_word true s t = refl
+either_word false s t = refl
 
-  pub find_full : length w ≡ 8 → 8 ≤ i → Nowhere ≡ place_of x 0 (take n w)
-  find_full q h =
-      let z : place_of x i (drop i (take n w)) ≡ Nowhere = rw (drop_of_length-le (take n w) {i = i} (simp length-take (omega arith))) in
+placed_from : (x i : ℕ) (w : List ℕ) → position_from (λ z. eqb x z) i w ≡ place_of x i w
+placed_from x i [] = refl
+placed_from x i (y ∷ w) =
+    let e : position_from (λ z. eqb x z) (i + 1) w ≡ place_of x (suc i) w = rw add-one (placed_from x (suc i) w) in
+    either_word (eqb x y) (Some i) (position_from (λ z. eqb x z) (i + 1) w) ∙ ap (pick (eqb x y) (Some i)) e
+
+pub placed : (x : ℕ) (w : List ℕ) → position (λ y. eqb x y) w ≡ place_of x 0 w
+placed x w = position_from-zero (λ y. eqb x y) w ∙ placed_from x 0 w
+
+-- ---- without
+
+pub closed_up : (w : List ℕ) (at : ℕ) → length w ≡ 8 → at < 8 → set (copy_within w (at + 1) 8 at) 7 0 ≡ closed w at
+unfolding closed
+closed_up w at e h =
+    let n : 8 - (at + 1) ≡ length (drop (at + 1) w) = omega (arith, length-drop (at + 1) w) in
+    let k : at + (8 - (at + 1)) ≡ 7 = omega arith in
+    let z : drop 8 w ≡ [] = drop_of_length-le w {i = 8} (omega arith) in
+    let m : length (take at w ++ drop (at + 1) w) ≡ 7 =
+    omega (arith, length-append (take at w) (drop (at + 1) w), length-drop (at + 1) w, length-take at w)
+    in
+    let p : copy_within w (at + 1) 8 at ≡ (take at w ++ drop (at + 1) w) ++ (get_or w 7 0 ∷ []) =
+    paste_all w at (drop (at + 1) w) (8 - (at + 1)) n ∙ rw (k, drop-cons w 7 0 (omega arith), z, append_assoc)
+    in
+    let q : set ((take at w ++ drop (at + 1) w) ++ (get_or w 7 0 ∷ [])) 7 0 ≡ (take at w ++ drop (at + 1) w) ++ (0 ∷ []) =
+    rw m at (set-append_seam (take at w ++ drop (at + 1) w) (get_or w 7 0) [] 0)
+    in
+    rw (p, q, append_assoc, add-one, lt-ltb at 8 h)
+
+-- ---- the same step by step, for a unit that is held as octets
+
+module _ (x i n : ℕ) (w : List ℕ) (e : place_of x i (drop i (take n w)) ≡ place_of x 0 (take n w)) where
+  pub find_past : n ≤ i → None ≡ place_of x 0 (take n w)
+  find_past h =
+      let z : place_of x i (drop i (take n w)) ≡ None = rw (drop_of_length-le (take n w) {i = i} (simp length-take (omega arith))) in
       sym z ∙ e
 
   module _ (h : i < n) (k : i < length w) where
-    next : place_of x i (drop i (take n w)) ≡ pick (eqb x (get_or w i 0)) (Place i) (place_of x (i + 1) (drop (i + 1) (take n w)))
+    next : place_of x i (drop i (take n w)) ≡ pick (eqb x (get_or w i 0)) (Some i) (place_of x (i + 1) (drop (i + 1) (take n w)))
     next =
         let l : i < length (take n w) = simp length-take (omega arith) in
         rw (add-one, drop-cons (take n w) i 0 l, get_or-take n w i 0 h)
 
-    pub find_hit : x ≡ get_or w i 0 → Place i ≡ place_of x 0 (take n w)
+    pub find_hit : x ≡ get_or w i 0 → Some i ≡ place_of x 0 (take n w)
     find_hit q =
-        let z : place_of x i (drop i (take n w)) ≡ Place i = rw (next, eq-eqb x (get_or w i 0) q) in
+        let z : place_of x i (drop i (take n w)) ≡ Some i = rw (next, eq-eqb x (get_or w i 0) q) in
         sym z ∙ e
 
     pub find_on : (x ≡ get_or w i 0 → ⊥) → place_of x (i + 1) (drop (i + 1) (take n w)) ≡ place_of x 0 (take n w)
@@ -41,15 +74,9 @@ module _ (x i n : ℕ) (w : List ℕ) (e : place_of x i (drop i (take n w)) ≡ 
         let z : place_of x i (drop i (take n w)) ≡ place_of x (i + 1) (drop (i + 1) (take n w)) = rw (next, ne_eqb x (get_or w i 0) q) in
         sym z ∙ e
 
--- ---- without
-
 closed_in : (w : List ℕ) (i : ℕ) → i < 8 → closed w i ≡ take i w ++ (drop (suc i) w ++ (0 ∷ []))
 unfolding closed
 closed_in w i h = rw (lt-ltb i 8 h)
-
-pub closed_past : (w : List ℕ) (i : ℕ) → 8 ≤ i → w ≡ closed w i
-unfolding closed
-closed_past w i h = rw (le-ltb i 8 h)
 
 -- closing up at i is closing up at i + 1 once the next entry is stored at i
 pub closed_step : {o : List ℕ} (w : List ℕ) (i : ℕ) → length w ≡ 8 → i < 7 → closed w i ≡ o → closed (set w i (get_or w (i + 1) 0)) (i + 1) ≡ o
@@ -76,8 +103,3 @@ end_at w i e h =
 
 pub closed_end : {o : List ℕ} (w : List ℕ) (i : ℕ) → length w ≡ 8 → i ≤ 7 → 7 ≤ i → closed w i ≡ o → set w 7 0 ≡ o
 closed_end w i e h k q = sym (end_at w i e (omega arith)) ∙ q
-
--- ---- with_one
-
-pub set_past : (w : List ℕ) (n x : ℕ) → length w ≡ 8 → 8 ≤ n → w ≡ set w n x
-set_past w n x e h = sym (set_out w n x (omega arith))

@@ -1,75 +1,14 @@
-// Whether a unit is sound.
-ghost use Rattle.std.specs.Prelude.{◌≡◌, ◌+◌, ◌≤◌, take, drop};
+// Whether a unit is sound, whatever it is held as.
+ghost use Rattle.std.specs.Prelude.{◌≡◌, ℕ, ◌+◌, ◌<◌, ◌≤◌, length, take, get_or, slice_range};
+ghost use Rattle.std.specs.Bool.{OnTrue};
 ghost use Rattle.octets.specs.Choice as Choice;
-ghost use Rattle.book.specs.Sound.{zeros, differ, within_limits, setup_sound, ids_sound, limit_of, idle_sound, busy_sound, kept_none, kept_reads, kept_good, kept_sound, state_sound, sound_of};
+ghost use Rattle.book.specs.Sound.{differ, within_limits, setup_sound, ids_sound, limit_of, idle_sound, busy_sound, kept_reads, kept_sound, state_sound, sound_of};
 ghost use Rattle.book.specs.Book.{good, waits};
 ghost use Rattle.book.specs.View.{reading_in, frame_at};
-ghost use Rattle.book.specs.Ready.{Reads};
+ghost use Rattle.book.specs.Ready.{Reads, Ready};
 
-use book::Unit;
-use frame::{Header, Reading};
-
-// The bits of two octets in one: 0 only where both are.
-fn joined(a: u8, b: u8) -> u8
-    ensures { (a ≤ result) × ((b ≤ result) × (result ≤ a + b)) }
-{
-    a | b
-}
-
-// Whether all octets are 0. It looks at each, and not only up to the first that isn't: so the compiler can take many at once.
-pub fn clear(s: &[u8]) -> bool
-    ensures { result ≡ zeros s.now }
-{
-    let mut bits = 0;
-    let mut i = 0;
-    while i < s.len() {
-        bits = joined(bits, s[i]);
-        i += 1;
-    }
-    bits == 0
-}
-
-fn clear_ids(s: &[u16]) -> bool
-    ensures { result ≡ zeros s.now }
-{
-    let mut i = 0;
-    while i < s.len() {
-        if s[i] != 0 {
-            return false;
-        }
-        i += 1;
-    }
-    true
-}
-
-fn among(s: &[u16], id: u16) -> bool
-    ensures { result ≡ waits id s.now }
-{
-    let mut i = 0;
-    while i < s.len() {
-        if s[i] == id {
-            return true;
-        }
-        i += 1;
-    }
-    false
-}
-
-// No identifier stands twice.
-fn distinct(s: &[u16]) -> bool
-    ensures { result ≡ differ s.now }
-{
-    let mut i = 0;
-    while i < s.len() {
-        let id = s[i];
-        let j = i + 1;
-        if among(&s[j..], id) {
-            return false;
-        }
-        i = j;
-    }
-    true
-}
+use frame::{Header, Whole};
+use image::seen::Seen;
 
 pub fn both(a: bool, b: bool) -> bool
     ensures { result ≡ Choice.both a b }
@@ -84,170 +23,132 @@ pub fn either(a: bool, b: bool) -> bool
 }
 
 // The limits of setup: 1..65,535 ticks each, a name of 1..32 octets.
+#[tactic(auto, unfolding(book::specs::Sound::within_limits))]
 pub fn within_limits(start: u16, end: u16, inactivity: u16, letters: usize) -> bool
     ensures { result ≡ within_limits start end inactivity letters }
 {
-    let named = both(0 < letters, letters <= 32);
-    both(0 < start, both(0 < end, both(0 < inactivity, named)))
+    0 < start && 0 < end && 0 < inactivity && (1..=32).contains(&letters)
 }
 
-// The octets of a name after its first n are 0.
-fn rest_clear(name: [u8; 32], n: usize) -> bool
-    ensures { result ≡ zeros (drop n name) }
+#[tactic(auto, unfolding(book::specs::Sound::setup_sound))]
+fn setup_sound<S: Seen>(u: &S) -> bool
+    ensures value { result ≡ setup_sound (S.unit u.now) }
+    ensures places { OnTrue result (length (S.unit u.now).name ≡ 32) }
 {
-    if 32 < n {
-        return true;
+    within_limits(u.start(), u.end(), u.inactivity(), u.letters()) && u.is_name_clear()
+}
+
+// Whether an identifier stands among the first n of the waiting list, from a place on.
+fn is_among<S: Seen>(u: &S, from: usize, n: usize, id: u16) -> bool
+    requires { n ≤ length (S.unit u.now).waiting }
+    ensures { result ≡ waits id (slice_range (S.unit u.now).waiting from n) }
+{
+    (from..n).any(|i| u.id(i) == id)
+}
+
+// No identifier stands twice among the first n.
+fn distinct<S: Seen>(u: &S, n: usize) -> bool
+    requires { n ≤ length (S.unit u.now).waiting }
+    ensures { result ≡ differ (take n (S.unit u.now).waiting) }
+{
+    for i in 0..n {
+        if is_among(u, i + 1, n, u.id(i)) {
+            return false;
+        }
     }
-    clear(&name[n..])
+    true
 }
 
-fn setup_sound(u: Unit) -> bool
-    ensures { result ≡ setup_sound u }
+#[tactic(auto, unfolding(book::specs::Sound::ids_sound))]
+fn ids_sound<S: Seen>(u: &S) -> bool
+    ensures value { result ≡ ids_sound (S.unit u.now).waiting (S.unit u.now).count }
+    ensures places { OnTrue result (length (S.unit u.now).waiting ≡ 8) }
 {
-    let name = u.name;
-    let rest = rest_clear(name, u.letters);
-    let within = within_limits(u.start, u.end, u.inactivity, u.letters);
-    both(within, rest)
-}
-
-fn ids_sound(w: [u16; 8], n: usize) -> bool
-    ensures { result ≡ ids_sound w n }
-{
-    if 8 < n {
-        return false;
-    }
-    let a = distinct(&w[..n]);
-    let b = clear_ids(&w[n..]);
-    both(a, b)
+    let n = u.count();
+    n <= 8 && u.is_list_clear() && distinct(u, n)
 }
 
 // The limit of the state that a unit is in.
-pub fn limit_of(u: Unit) -> u16
-    ensures { result ≡ limit_of u }
+#[tactic(auto, unfolding(book::specs::Sound::limit_of))]
+pub fn limit_of<S: Seen>(u: &S) -> u16
+    ensures { result ≡ limit_of (S.unit u.now) }
 {
-    let s = u.state;
-    if s == 4 {
-        return u.inactivity;
+    match u.state() {
+        4 => u.inactivity(),
+        3 => u.end(),
+        _ => u.start(),
     }
-    if s == 3 {
-        return u.end;
+}
+
+#[tactic(auto, unfolding(book::specs::Sound::idle_sound))]
+fn idle_sound<S: Seen>(u: &S) -> bool
+    ensures { result ≡ idle_sound (S.unit u.now) }
+{
+    let terms = u.terms();
+    u.elapsed() == 0 && u.count() == 0 && terms.class == 0 && terms.priority == 0 && terms.rer == 0
+}
+
+#[tactic(auto, unfolding(book::specs::Sound::busy_sound))]
+fn busy_sound<S: Seen>(u: &S) -> bool
+    ensures { result ≡ busy_sound (S.unit u.now) }
+{
+    u.elapsed() < limit_of(u) && (1..3).contains(&u.terms().rer) && (2 < u.state() || u.count() < 2)
+}
+
+#[tactic(auto, unfolding(book::specs::Sound::state_sound))]
+fn state_sound<S: Seen>(u: &S) -> bool
+    ensures { result ≡ state_sound (S.unit u.now) }
+{
+    match u.state() {
+        0 => idle_sound(u),
+        state => state < 5 && busy_sound(u),
     }
-    u.start
-}
-
-fn idle_sound(u: Unit) -> bool
-    ensures { result ≡ idle_sound u }
-{
-    let t = u.terms;
-    let unused = both(t.class == 0, both(t.priority == 0, t.rer == 0));
-    both(u.elapsed == 0, both(u.count == 0, unused))
-}
-
-fn busy_sound(u: Unit) -> bool
-    ensures { result ≡ busy_sound u }
-{
-    let limit = limit_of(u);
-    let few = either(2 < u.state, u.count < 2);
-    let t = u.terms;
-    both(u.elapsed < limit, both(0 < t.rer, both(t.rer < 3, few)))
-}
-
-fn kept_none(u: Unit) -> bool
-    ensures { result ≡ kept_none u }
-{
-    let z = clear(&u.kept);
-    both(u.octets == 0, z)
 }
 
 // Whether a message that was read may be the kept one.
-fn kept_says(u: Unit, frame: &[u8], h: Header, n: usize) -> bool
+#[tactic(auto, using(crate::proofs::KeptLaws::says_plain, crate::proofs::KeptLaws::says_sure, crate::proofs::KeptLaws::says_note))]
+fn kept_says<S: Seen>(u: &S, frame: &[u8], h: Header, n: usize) -> bool
     requires { Reads frame.now h n }
-    ensures { result ≡ kept_reads u (good (frame_at frame.now h) n) }
+    ensures { result ≡ kept_reads (S.unit u.now) (good (frame_at frame.now h) n) }
 {
-    if n != 0 {
-        return false;
-    }
-    let c = h.confirmation;
-    if c == 0 {
-        return both(h.multi_shot, u.count == 0);
-    }
-    if c == 1 {
-        let i = h.identifier;
-        let id = crate::needed_value(frame::two_octets(frame, i));
-        let w = u.waiting;
-        let first = w[0];
-        return both(h.multi_shot, both(u.count == 1, first == id));
-    }
-    false
-}
-
-fn kept_reads(u: Unit, frame: &[u8]) -> bool
-    ensures { result ≡ kept_reads u (reading_in frame.now) }
-{
-    let reading = frame::read(frame);
-    match reading {
-        Reading::Faulty(_) => false,
-        Reading::Whole { header, extensions } => kept_says(u, frame, header, extensions),
+    let alone = n == 0 && h.multi_shot;
+    match h.confirmation {
+        0 => alone && u.count() == 0,
+        1 => alone
+            && u.count() == 1
+            && u.id(0) == frame::two_octets(frame, h.identifier).unwrap_or(0),
+        _ => false,
     }
 }
 
-// The octets of the kept array after its first n are 0.
-fn kept_clear(kept: [u8; 554], n: usize) -> bool
-    requires { n ≤ 554 }
-    ensures { result ≡ zeros (drop n kept) }
+fn kept_reads<S: Seen>(u: &S, frame: &[u8]) -> bool
+    ensures { result ≡ kept_reads (S.unit u.now) (reading_in frame.now) }
 {
-    clear(&kept[n..])
-}
-
-fn kept_part(u: Unit, kept: [u8; 554], n: usize) -> bool
-    requires { n ≤ 554 }
-    ensures { result ≡ kept_reads u (reading_in (take n kept)) }
-{
-    kept_reads(u, &kept[..n])
-}
-
-fn kept_good(u: Unit) -> bool
-    ensures { result ≡ kept_good u }
-{
-    let n = u.octets;
-    if 554 < n {
-        return false;
+    match frame::read(frame) {
+        Err(_) => false,
+        Ok(Whole { header, extensions }) => kept_says(u, frame, header, extensions),
     }
-    let kept = u.kept;
-    let z = kept_clear(kept, n);
-    let r = kept_part(u, kept, n);
-    both(z, r)
 }
 
-fn kept_sound(u: Unit) -> bool
-    ensures { result ≡ kept_sound u }
+// No frame is kept but in Start-multi.
+#[tactic(auto, unfolding(book::specs::Sound::kept_sound, book::specs::Sound::kept_good, book::specs::Sound::kept_none))]
+fn kept_sound<S: Seen>(u: &S) -> bool
+    ensures value { result ≡ kept_sound (S.unit u.now) }
+    ensures places { OnTrue result (length (S.unit u.now).kept ≡ 554) }
+    ensures octets { OnTrue result ((i : ℕ) → get_or (S.unit u.now).kept i 0 < 256) }
 {
-    let s = u.state;
-    if s == 2 {
-        return kept_good(u);
-    }
-    kept_none(u)
+    u.is_kept_clear()
+        && match u.state() {
+            2 => u.octets() <= 554 && kept_reads(u, u.kept()),
+            _ => u.octets() == 0,
+        }
 }
 
-fn state_sound(u: Unit) -> bool
-    ensures { result ≡ state_sound u }
+// Whether a unit is sound. The cheapest tests come first; one that isn't sound is done with at the first that fails.
+#[tactic(auto, using(crate::proofs::Sounds::ready), unfolding(book::specs::Sound::sound_of))]
+pub fn sound<S: Seen>(u: &S) -> bool
+    ensures value { result ≡ sound_of (S.unit u.now) }
+    ensures ready { OnTrue result (Ready (S.unit u.now)) }
 {
-    let s = u.state;
-    if s == 0 {
-        return idle_sound(u);
-    }
-    let b = busy_sound(u);
-    both(s < 5, b)
-}
-
-// Whether a unit is sound.
-pub fn sound(u: Unit) -> bool
-    ensures { result ≡ sound_of u }
-{
-    let w = u.waiting;
-    let a = setup_sound(u);
-    let b = ids_sound(w, u.count);
-    let c = kept_sound(u);
-    let d = state_sound(u);
-    both(a, both(b, both(c, d)))
+    setup_sound(u) && state_sound(u) && ids_sound(u) && kept_sound(u)
 }

@@ -11,14 +11,9 @@ const TURNS: [[u8; 11]; 5] = [
     [0, 1, 1, 1, 0, 0, 1, 1, 0, 1, 1],
 ];
 
+#[tactic(auto, unfolding(book::specs::Turns::takes))]
 pub fn taken(state: usize, column: usize) -> bool
     ensures { result ≡ takes state column }
 {
-    if 5 <= state {
-        return false;
-    }
-    if 11 <= column {
-        return false;
-    }
-    TURNS[state][column] == 1
+    state < 5 && column < 11 && TURNS[state][column] == 1
 }

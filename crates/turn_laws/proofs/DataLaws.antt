@@ -1,5 +1,5 @@
 -- 12 D-DATA indication: one law for each way out. Closed by cases on the state and on where the reference stands.
-use Rattle.std.specs.Prelude.{None, Option, Some}
+use Rattle.std.specs.Prelude.{None, Option, Some, Result, Ok, Err}
 use Prim.Native.Nat.{ℕ, zero, suc, ◌+◌, ◌<◌, ◌≤◌, ◌/◌, ◌%◌}
 use mathlib.Core.Path.{◌≡◌, refl, ap, sym, ◌∙◌}
 use mathlib.Core.Bool.{Bool, true, false}
@@ -12,19 +12,14 @@ use lib.Seq.{length-take-le}
 use Rattle.octets.specs.Choice.{pick}
 use Rattle.frame.specs.declared.Header.{Header}
 use Rattle.frame.specs.declared.Fault.{Fault}
-use Rattle.frame.specs.declared.TwoOctets.{TwoOctets}
-use Rattle.frame.specs.declared.Reading.{Reading as Answer}
-use Rattle.frame.specs.declared.Reading.TheVariants.{Whole, Faulty}
+use Rattle.frame.specs.declared.Whole.{Whole}
 use Rattle.frame.specs.Message.{Message}
 use Rattle.frame.specs.Faults.{fault_number}
 use Rattle.frame.specs.Reading.{reading_of}
-use Rattle.frame.specs.Decoding.{message_at, octet_in, number_in, two_octets, held_at}
+use Rattle.frame.specs.Decoding.{message_at, two_octets, held_at}
 use Rattle.frame.specs.Stripping.{bare_to}
 use Rattle.book.specs.declared.Unit.{Unit as Value}
 use Rattle.book.specs.declared.Turn.{Turn}
-use Rattle.book.specs.declared.Verdict.TheVariants.{Done}
-use Rattle.book.specs.declared.Found.{Found}
-use Rattle.book.specs.declared.Found.TheVariants.{Place, Nowhere}
 use Rattle.book.specs.Book.{Body, plain, sure, Kind, ok, Frame, msg, note, good, bad, give, answer, send, dat, State, idle, single, multi, ending, assoc, Setup, waiting_of, without, without_in, ack, ack_body, with_seen, noted, left_waiting, result_of, fall, on_dat}
 use Rattle.book.specs.View.{needed, body_in, reading_in, frame_octets, msg_octets, frame_at, kind_for}
 use Rattle.book.specs.Lines.{terms_octets, result_number}
@@ -60,7 +55,7 @@ seen_some n z h l = laid_as (seen_line n z h) l
 
 -- ---- a message that was heard, as the note that acknowledges it
 
-ack_fields : (a : Note) (m : Message) (name : List ℕ) → a.multi_shot ≡ m.multi_shot → octet_in a.message_type ≡ m.message_type →
+ack_fields : (a : Note) (m : Message) (name : List ℕ) → a.multi_shot ≡ m.multi_shot → a.message_type ≡ m.message_type →
     a.reference ≡ needed m.message_identifier → a.confirmation ≡ 2 →
     note_frame a name ≡ note ok (needed m.message_identifier) None name (record { maintained = m.multi_shot; type = m.message_type; user_data = None })
 ack_fields a m name es et er ec = rw (es, et, er, ec)
@@ -72,51 +67,51 @@ ack_octets s f h a k = ap frame_octets (ack_fields a (message_at f h) s.name k.s
 
 -- ---- where a reference stands
 
-bump : Found → Found
-bump Nowhere = Nowhere
-bump (Place i) = Place (suc i)
+bump : Option ℕ → Option ℕ
+bump None = None
+bump (Some i) = Some (suc i)
 
-pick_bump : (b : Bool) (f g : Found) → pick b (bump f) (bump g) ≡ bump (pick b f g)
+pick_bump : (b : Bool) (f g : Option ℕ) → pick b (bump f) (bump g) ≡ bump (pick b f g)
 pick_bump true f g = refl
 pick_bump false f g = refl
 
 place_bump : (x k : ℕ) (w : List ℕ) → place_of x (suc k) w ≡ bump (place_of x k w)
 unfolding bump
 place_bump x k [] = refl
-place_bump x k (y ∷ w) = rw (place_bump x (suc k) w) (pick_bump (eqb x y) (Place k) (place_of x (suc k) w))
+place_bump x k (y ∷ w) = rw (place_bump x (suc k) w) (pick_bump (eqb x y) (Some k) (place_of x (suc k) w))
 
-cut_out : List ℕ → Found → Option (List ℕ)
-cut_out w Nowhere = None
-cut_out w (Place i) = Some (take i w ++ drop (suc i) w)
+cut_out : List ℕ → Option ℕ → Option (List ℕ)
+cut_out w None = None
+cut_out w (Some i) = Some (take i w ++ drop (suc i) w)
 
-cut_step : (b : Bool) (y : ℕ) (w : List ℕ) (f : Found) → without_in b y w (cut_out w f) ≡ cut_out (y ∷ w) (pick b (Place 0) (bump f))
+cut_step : (b : Bool) (y : ℕ) (w : List ℕ) (f : Option ℕ) → without_in b y w (cut_out w f) ≡ cut_out (y ∷ w) (pick b (Some 0) (bump f))
 unfolding cut_out without_in bump
 cut_step true y w f = refl
-cut_step false y w Nowhere = refl
-cut_step false y w (Place i) = refl
+cut_step false y w None = refl
+cut_step false y w (Some i) = refl
 
 without_found : (x : ℕ) (w : List ℕ) → without x w ≡ cut_out w (place_of x 0 w)
 unfolding without cut_out
 without_found x [] = refl
 without_found x (y ∷ w) = rw (without_found x w, place_bump x 0 w) (cut_step (eqb x y) y w (place_of x 0 w))
 
-pub without_none : (x : ℕ) (w : List ℕ) → place_of x 0 w ≡ Nowhere → without x w ≡ None
+pub without_none : (x : ℕ) (w : List ℕ) → place_of x 0 w ≡ None → without x w ≡ None
 unfolding cut_out
 without_none x w e = without_found x w ∙ ap (cut_out w) e
 
-pub without_some : (x i : ℕ) (w : List ℕ) → place_of x 0 w ≡ Place i → without x w ≡ Some (take i w ++ drop (suc i) w)
+pub without_some : (x i : ℕ) (w : List ℕ) → place_of x 0 w ≡ Some i → without x w ≡ Some (take i w ++ drop (suc i) w)
 unfolding cut_out
 without_some x i w e = without_found x w ∙ ap (cut_out w) e
 
-place_at : (b : Bool) (rest : Found) (k i n : ℕ) → pick b (Place k) rest ≡ Place i → (rest ≡ Place i → i < suc k + n) → i < k + suc n
+place_at : (b : Bool) (rest : Option ℕ) (k i n : ℕ) → pick b (Some k) rest ≡ Some i → (rest ≡ Some i → i < suc k + n) → i < k + suc n
 place_at true rest k i n e ih = let g : k ≡ i = cc in omega arith
 place_at false rest k i n e ih = omega (arith, ih e)
 
-place_from : (x k i : ℕ) (l : List ℕ) → place_of x k l ≡ Place i → i < k + length l
+place_from : (x k i : ℕ) (l : List ℕ) → place_of x k l ≡ Some i → i < k + length l
 place_from x k i [] e = let z : ◌≡◌ {A = ℕ} 0 1 = cc in absurd (omega arith)
 place_from x k i (y ∷ l) e = place_at (eqb x y) (place_of x (suc k) l) k i (length l) e (λ f. place_from x (suc k) i l f)
 
-pub place_below : (x i : ℕ) (l : List ℕ) → place_of x 0 l ≡ Place i → i < length l
+pub place_below : (x i : ℕ) (l : List ℕ) → place_of x 0 l ≡ Some i → i < length l
 place_below x i l e = omega (arith, place_from x 0 i l e)
 
 -- ---- the rules, by the state
@@ -201,7 +196,7 @@ module _ {u : Value} (k : Ready u) {f : List ℕ} {h : Header} {n : ℕ} (w : Re
 
   pub heard_plain : {v : Value} {r : Turn} {before mid after : List ℕ} {p q : Pen} → takes u.state 6 ≡ true → h.confirmation ≡ 0
       → Laid before fresh (seen_lines n) mid p → Laid mid p ((0x20 ∷ (terms_octets u.terms ++ bare_to f h.end)) ∷ []) after q → v ≡ rested u
-      → r ≡ record { unit = v; verdict = Done q.lines q.at }
+      → r ≡ record { unit = v; verdict = Ok (record { lines = q.lines; octets = q.at }) }
       → Turned u (on_dat (setup_of u) (good (frame_at f h) n) (state_of u)) before r after
   unfolding message_at
   heard_plain t c x y e q =
@@ -211,7 +206,7 @@ module _ {u : Value} (k : Ready u) {f : List ℕ} {h : Header} {n : ℕ} (w : Re
 
   pub heard_sure_ending : {v : Value} {r : Turn} {before mid after : List ℕ} {p q : Pen} → takes u.state 6 ≡ true → h.confirmation ≡ 1 → (u.state ≡ 4 → ⊥)
       → Laid before fresh (seen_lines n) mid p → Laid mid p ((0x21 ∷ (terms_octets u.terms ++ bare_to f h.end)) ∷ []) after q → v ≡ rested u
-      → r ≡ record { unit = v; verdict = Done q.lines q.at }
+      → r ≡ record { unit = v; verdict = Ok (record { lines = q.lines; octets = q.at }) }
       → Turned u (on_dat (setup_of u) (good (frame_at f h) n) (state_of u)) before r after
   unfolding message_at
   heard_sure_ending t c z x y e q =
@@ -222,7 +217,7 @@ module _ {u : Value} (k : Ready u) {f : List ℕ} {h : Header} {n : ℕ} (w : Re
   pub heard_sure_assoc : {v : Value} {a : Note} {r : Turn} {before b1 b2 after : List ℕ} {p₁ p₂ p₃ : Pen} → h.confirmation ≡ 1 → u.state ≡ 4
       → Laid before fresh (seen_lines n) b1 p₁ → Laid b1 p₁ ((0x21 ∷ (terms_octets u.terms ++ bare_to f h.end)) ∷ []) b2 p₂ → v ≡ rested u → AckOf f h a
       → Laid b2 p₂ ((0x32 ∷ note_octets a (take u.letters u.name)) ∷ []) after p₃
-      → r ≡ record { unit = v; verdict = Done p₃.lines p₃.at }
+      → r ≡ record { unit = v; verdict = Ok (record { lines = p₃.lines; octets = p₃.at }) }
       → Turned u (on_dat (setup_of u) (good (frame_at f h) n) (state_of u)) before r after
   unfolding message_at
   heard_sure_assoc {a = a} c z x y e g l q =
@@ -233,23 +228,23 @@ module _ {u : Value} (k : Ready u) {f : List ℕ} {h : Header} {n : ℕ} (w : Re
       ∙ seen_first n (give u.terms (sure_in M) ∷ send (dat (good (ack S (needed M.message_identifier) (body_in M)) 0)) ∷ []))
       (and_then x (and_then y l)) q)
 
-  module _ (t : takes u.state 6 ≡ true) (c : 2 ≤ h.confirmation) (i : TwoOctets) {id : ℕ} {g : Found} (ei : number_in i ≡ two_octets (held_at f h.reference))
-      (er : id ≡ needed (number_in i)) (eg : g ≡ place_of id 0 (ids_in u)) where
+  module _ (t : takes u.state 6 ≡ true) (c : 2 ≤ h.confirmation) (i : Option ℕ) {id : ℕ} {g : Option ℕ} (ei : i ≡ two_octets (held_at f h.reference))
+      (er : id ≡ needed i) (eg : g ≡ place_of id 0 (ids_in u)) where
     stands : place_of (needed M.message_reference) 0 (waiting_of T) ≡ g
     unfolding message_at
     stands = sym (eg ∙ rw (er, ei) (ap (place_of (needed (two_octets (held_at f h.reference))) 0) (ids_are S u T k.whole)))
 
-    pub heard_note_none : {v : Value} {r : Turn} {before after : List ℕ} {p : Pen} → Laid before fresh (seen_lines n) after p → v ≡ rested u → g ≡ Nowhere
-        → r ≡ record { unit = v; verdict = Done p.lines p.at }
+    pub heard_note_none : {v : Value} {r : Turn} {before after : List ℕ} {p : Pen} → Laid before fresh (seen_lines n) after p → v ≡ rested u → g ≡ None
+        → r ≡ record { unit = v; verdict = Ok (record { lines = p.lines; octets = p.at }) }
         → Turned u (on_dat (setup_of u) (good (frame_at f h) n) (state_of u)) before r after
     unfolding message_at
     heard_note_none x e z q =
         turned_as (ap (λ (g : Frame). on_dat S (good g n) T) (note_view M c))
         (went (note_none S u T k.whole t _ _ _ _ _ n (without_none _ (waiting_of T) (stands ∙ z))) e (sym (append-nil (seen_lines n)) ∙ seen_first n []) x q)
 
-    pub heard_note_some : {v x : Value} {j : ℕ} {r : Turn} {before mid after : List ℕ} {p₁ p₂ : Pen} → Laid before fresh (seen_lines n) mid p₁ → v ≡ rested u → g ≡ Place j
+    pub heard_note_some : {v x : Value} {j : ℕ} {r : Turn} {before mid after : List ℕ} {p₁ p₂ : Pen} → Laid before fresh (seen_lines n) mid p₁ → v ≡ rested u → g ≡ Some j
         → Laid mid p₁ ((34 ∷ pick (eqb h.confirmation 2) 0 1 ∷ bare_to f h.end) ∷ []) after p₂ → x ≡ removed v j
-        → r ≡ record { unit = x; verdict = Done p₂.lines p₂.at }
+        → r ≡ record { unit = x; verdict = Ok (record { lines = p₂.lines; octets = p₂.at }) }
         → Turned u (on_dat (setup_of u) (good (frame_at f h) n) (state_of u)) before r after
     unfolding message_at
     heard_note_some {j = j} x e z y ex q =
@@ -263,7 +258,7 @@ module _ {u : Value} (k : Ready u) {f : List ℕ} {h : Header} {n : ℕ} (w : Re
         ∙ seen_first n (answer (needed M.message_reference) (result_of (kind_for h.confirmation)) (note_in M) ∷ [])) (and_then x y) q)
 
 -- taking a place out asks that something waits
-pub note_remove : {u v : Value} (k : Ready u) (id : ℕ) {j : ℕ} {g : Found} → g ≡ place_of id 0 (ids_in u) → g ≡ Place j → v ≡ rested u → 1 ≤ v.count
+pub note_remove : {u v : Value} (k : Ready u) (id : ℕ) {j : ℕ} {g : Option ℕ} → g ≡ place_of id 0 (ids_in u) → g ≡ Some j → v ≡ rested u → 1 ≤ v.count
 unfolding rested advanced
 note_remove {u} {v} k id {j} q z e =
     let b = place_below id j (ids_in u) (sym q ∙ z) in
@@ -273,13 +268,13 @@ note_remove {u} {v} k id {j} q z e =
 
 -- ---- from the octets
 
-module _ {u : Value} (f : List ℕ) {before after : List ℕ} {x : Answer} {r : Turn} (q : x ≡ reading_of f) where
-  pub heard_bad : Ready u → takes u.state 6 ≡ true → {y : Fault} {n : ℕ} → x ≡ Faulty y → n ≡ fault_number y
+module _ {u : Value} (f : List ℕ) {before after : List ℕ} {x : Result Whole Fault} {r : Turn} (q : x ≡ reading_of f) where
+  pub heard_bad : Ready u → takes u.state 6 ≡ true → {y : Fault} {n : ℕ} → x ≡ Err y → n ≡ fault_number y
       → Turned u (fall (setup_of u) (maintains (state_of u)) (waiting_of (state_of u)) n) before r after
       → Turned u (on_dat (setup_of u) (reading_in f) (state_of u)) before r after
   heard_bad k t {n = n} e en g =
       turned_as (ap (λ y. on_dat (setup_of u) y (state_of u)) (faulty_reading f q e ∙ ap bad (sym en)) ∙ bad_is (setup_of u) u (state_of u) k.whole t n) g
 
-  pub heard_good : {h : Header} {n : ℕ} → x ≡ Whole h n → Turned u (on_dat (setup_of u) (good (frame_at f h) n) (state_of u)) before r after
+  pub heard_good : {v : Whole} → x ≡ Ok v → Turned u (on_dat (setup_of u) (good (frame_at f v.header) v.extensions) (state_of u)) before r after
       → Turned u (on_dat (setup_of u) (reading_in f) (state_of u)) before r after
-  heard_good {h} {n} e g = turned_as (ap (λ y. on_dat (setup_of u) y (state_of u)) (whole_reading f h n q e)) g
+  heard_good {v} e g = turned_as (ap (λ y. on_dat (setup_of u) y (state_of u)) (whole_reading f v q e)) g

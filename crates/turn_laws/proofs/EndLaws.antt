@@ -1,4 +1,5 @@
 -- 03, 04, 13, 14, 15, 16 and the falls: one law for each way out. Closed by cases on the state.
+use Rattle.std.specs.Prelude.{Ok}
 use Prim.Native.Nat.{ℕ, suc, ◌+◌, ◌<◌, ◌≤◌}
 use mathlib.Core.Path.{◌≡◌, refl, ap, sym, ◌∙◌}
 use mathlib.Core.Bool.{Bool, true, false}
@@ -8,7 +9,6 @@ use native.Mathlib.Numerals.{add-one}
 use borrow.Author.Tests.{lt-leb, le-leb}
 use Rattle.book.specs.declared.Unit.{Unit as Value}
 use Rattle.book.specs.declared.Turn.{Turn}
-use Rattle.book.specs.declared.Verdict.TheVariants.{Done}
 use Rattle.book.specs.Book.{send, gone, ended, fin, fin_ok, State, idle, single, multi, ending, assoc, Setup, done, waiting_of, unsure, fall, quiet_fall, late, on_end, on_tick, on_fin, on_fin_ok, on_abort}
 use Rattle.book.specs.Turns.{takes}
 use Rattle.book.specs.Picture.{picture, setup_of, state_of}
@@ -114,14 +114,14 @@ module _ {u : Value} (k : Ready u) where
 
   pub fell : {reason : ℕ} {v : Value} {r : Turn} {before mid after : List ℕ} {p q : Pen}
       → Laid before fresh ((0x35 ∷ reason ∷ []) ∷ []) mid p → Laid mid p (doubts u ++ said (gone reason ∷ [])) after q → v ≡ cleared u
-      → r ≡ record { unit = v; verdict = Done q.lines q.at }
+      → r ≡ record { unit = v; verdict = Ok (record { lines = q.lines; octets = q.at }) }
       → Turned u (fall (setup_of u) (maintains (state_of u)) (waiting_of (state_of u)) reason) before r after
   unfolding fall
   fell {reason = reason} l m e q = gave refl (cleared_idle k e) (ap (λ x. (0x35 ∷ reason ∷ []) ∷ x) (doubted k (gone reason ∷ []))) (and_then l m) q
 
   pub aborted : (reason : ℕ) {v : Value} {r : Turn} {before after : List ℕ} {q : Pen}
       → takes u.state 9 ≡ true → Laid before fresh (doubts u ++ said (gone reason ∷ [])) after q → v ≡ cleared u
-      → r ≡ record { unit = v; verdict = Done q.lines q.at }
+      → r ≡ record { unit = v; verdict = Ok (record { lines = q.lines; octets = q.at }) }
       → Turned u (on_abort (setup_of u) reason (state_of u)) before r after
   unfolding quiet_fall
   aborted reason t l e q = gave (abort_is S u T reason k.whole t) (cleared_idle k e) (doubted k (gone reason ∷ [])) l q
@@ -129,22 +129,22 @@ module _ {u : Value} (k : Ready u) where
   -- ---- 03
   pub asked_end : {v : Value} {r : Turn} {before after : List ℕ} {q : Pen}
       → takes u.state 2 ≡ true → Laid before fresh ((0x33 ∷ []) ∷ []) after q → v ≡ advanced u 3 0
-      → r ≡ record { unit = v; verdict = Done q.lines q.at } → Turned u (on_end (state_of u)) before r after
+      → r ≡ record { unit = v; verdict = Ok (record { lines = q.lines; octets = q.at }) } → Turned u (on_end (state_of u)) before r after
   asked_end t l e q = went (end_goes S u T k.whole t) e refl l q
 
   -- ---- 04
-  pub ticked_idle : {r : Turn} {before : List ℕ} → u.state ≡ 0 → r ≡ record { unit = u; verdict = Done 0 0 }
+  pub ticked_idle : {r : Turn} {before : List ℕ} → u.state ≡ 0 → r ≡ record { unit = u; verdict = Ok (record { lines = 0; octets = 0 }) }
       → Turned u (on_tick (setup_of u) (late (setup_of u) (state_of u)) (state_of u)) before r before
   ticked_idle n q = went (tick_idle S u T k.whole n) refl refl (laid_none _ fresh) q
 
   module _ {limit : ℕ} (n : u.state ≡ 0 → ⊥) (l : limit ≡ limit_of u) where
     pub ticked_early : {v : Value} {r : Turn} {before : List ℕ} → u.elapsed + 1 < limit → v ≡ advanced u u.state (u.elapsed + 1)
-        → r ≡ record { unit = v; verdict = Done 0 0 } → Turned u (on_tick (setup_of u) (late (setup_of u) (state_of u)) (state_of u)) before r before
+        → r ≡ record { unit = v; verdict = Ok (record { lines = 0; octets = 0 }) } → Turned u (on_tick (setup_of u) (late (setup_of u) (state_of u)) (state_of u)) before r before
     ticked_early h e q = went (tick_early S u T k.whole n (rw l at h)) e refl (laid_none _ fresh) q
 
     pub ticked_end : {v : Value} {r : Turn} {before after : List ℕ} {p : Pen} → limit ≤ u.elapsed + 1 → u.state ≡ 4
         → Laid before fresh ((0x33 ∷ []) ∷ []) after p → v ≡ advanced u 3 0
-        → r ≡ record { unit = v; verdict = Done p.lines p.at } → Turned u (on_tick (setup_of u) (late (setup_of u) (state_of u)) (state_of u)) before r after
+        → r ≡ record { unit = v; verdict = Ok (record { lines = p.lines; octets = p.at }) } → Turned u (on_tick (setup_of u) (late (setup_of u) (state_of u)) (state_of u)) before r after
     ticked_end h m x e q = went (tick_end S u T k.whole m (rw l at h)) e refl x q
 
     pub ticked_fall : {r : Turn} {before after : List ℕ} → limit ≤ u.elapsed + 1 → (u.state ≡ 4 → ⊥)
@@ -155,19 +155,19 @@ module _ {u : Value} (k : Ready u) where
   -- ---- 13
   pub was_ended : {v : Value} {r : Turn} {before b1 b2 after : List ℕ} {p₁ p₂ p₃ : Pen}
       → takes u.state 7 ≡ true → Laid before fresh ((0x34 ∷ 0 ∷ []) ∷ []) b1 p₁ → Laid b1 p₁ (doubts u) b2 p₂ → Laid b2 p₂ ((0x23 ∷ []) ∷ []) after p₃
-      → v ≡ cleared u → r ≡ record { unit = v; verdict = Done p₃.lines p₃.at } → Turned u (on_fin (setup_of u) (state_of u)) before r after
+      → v ≡ cleared u → r ≡ record { unit = v; verdict = Ok (record { lines = p₃.lines; octets = p₃.at }) } → Turned u (on_fin (setup_of u) (state_of u)) before r after
   was_ended t x y z e q =
       gave (fin_is S u T k.whole t) (cleared_idle k e) (ap (λ l. (0x34 ∷ 0 ∷ []) ∷ l) (doubted k (ended ∷ []))) (and_then x (and_then y z)) q
 
   -- ---- 14
   pub agreed : {b : Bool} {v : Value} {r : Turn} {before after : List ℕ} {p : Pen}
       → takes u.state 8 ≡ true → b ≡ true → Laid before fresh (doubts u) after p → v ≡ cleared u
-      → r ≡ record { unit = v; verdict = Done p.lines p.at } → Turned u (on_fin_ok (setup_of u) b (state_of u)) before r after
+      → r ≡ record { unit = v; verdict = Ok (record { lines = p.lines; octets = p.at }) } → Turned u (on_fin_ok (setup_of u) b (state_of u)) before r after
   agreed t z x e q =
       turned_as (ap (λ (b : Bool). on_fin_ok S b T) z)
       (gave (yes_is S u T k.whole t) (cleared_idle k e) (sym (append-nil (doubts u)) ∙ doubted k []) x q)
 
   pub declined : {b : Bool} {v : Value} {r : Turn} {before : List ℕ}
       → takes u.state 8 ≡ true → b ≡ false → v ≡ advanced u 4 0
-      → r ≡ record { unit = v; verdict = Done 0 0 } → Turned u (on_fin_ok (setup_of u) b (state_of u)) before r before
+      → r ≡ record { unit = v; verdict = Ok (record { lines = 0; octets = 0 }) } → Turned u (on_fin_ok (setup_of u) b (state_of u)) before r before
   declined t z e q = turned_as (ap (λ (b : Bool). on_fin_ok S b T) z) (went (no_goes S u T k.whole t) e refl (laid_none _ fresh) q)

@@ -1,4 +1,5 @@
 -- A turn from its outcome: what the code laid and returned is what the rule book wants. Closed by the equations of the outcome.
+use Rattle.std.specs.Prelude.{Ok}
 use Prim.Native.Nat.{ℕ, ◌+◌}
 use mathlib.Core.Path.{◌≡◌, refl, ap, sym, ◌∙◌}
 use mathlib.Core.Bool.{Bool, true, not}
@@ -8,7 +9,7 @@ use lib.ListN.{length, take}
 use lib.Dec.{eqb}
 use Rattle.book.specs.declared.Unit.{Unit as Value}
 use Rattle.book.specs.declared.Turn.{Turn}
-use Rattle.book.specs.declared.Verdict.TheVariants.{Done}
+use Rattle.book.specs.declared.Refusal.{Refusal}
 use Rattle.book.specs.Book.{Out, answer, State, idle, single, multi, ending, assoc, Setup, Outcome, refused, done, unsure, with_seen, local, unknown, not_ok, uncertain, failed, refuse_all, waiting_of}
 use Rattle.book.specs.Lines.{line_of, laid, laid_out}
 use Rattle.book.specs.Picture.{picture, setup_of, state_of, ids_in}
@@ -29,7 +30,7 @@ said-length (o ∷ os) = ap Prim.Native.Nat.suc (said-length os)
 
 pub gave : {u v : Value} {o : Outcome} {st : State} {os : List Out} {ls : List (List ℕ)} {before after : List ℕ} {pen : Pen} {r : Turn}
     → o ≡ done st os → v ≡ picture (setup_of u) st → ls ≡ said os → Laid before fresh ls after pen
-    → r ≡ record { unit = v; verdict = Done pen.lines pen.at } → Turned u o before r after
+    → r ≡ record { unit = v; verdict = Ok (record { lines = pen.lines; octets = pen.at }) } → Turned u o before r after
 unfolding turn_of octets_of laid_out
 gave {os = os} e f g l q =
     let m = laid_as g l in
@@ -45,10 +46,10 @@ pub record Goes (s : Setup) (o : Outcome) (v : Value) (os : List Out) : Type 0 w
 
 pub went : {u v w : Value} {o : Outcome} {os : List Out} {ls : List (List ℕ)} {before after : List ℕ} {pen : Pen} {r : Turn}
     → Goes (setup_of u) o w os → v ≡ w → ls ≡ said os → Laid before fresh ls after pen
-    → r ≡ record { unit = v; verdict = Done pen.lines pen.at } → Turned u o before r after
+    → r ≡ record { unit = v; verdict = Ok (record { lines = pen.lines; octets = pen.at }) } → Turned u o before r after
 went g e f l q = gave g.outcome (e ∙ g.value) f l q
 
-pub refuses : {u : Value} {o : Outcome} {n : ℕ} {before : List ℕ} {r : Turn} → o ≡ refused n → r ≡ turn_of u (refused n) → Turned u o before r before
+pub refuses : {u : Value} {o : Outcome} {n : Refusal} {before : List ℕ} {r : Turn} → o ≡ refused n → r ≡ turn_of u (refused n) → Turned u o before r before
 unfolding octets_of
 refuses e f = record { result = rw e f; buffer = rw e }
 

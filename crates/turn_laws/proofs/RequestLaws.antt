@@ -1,5 +1,5 @@
 -- 01 and 02: one law for each way out. Closed by cases on the state, and by the tests on the way.
-use Rattle.std.specs.Prelude.{None, Option, Some}
+use Rattle.std.specs.Prelude.{None, Option, Some, Result, Ok, Err}
 use Prim.Native.Nat.{ℕ, zero, suc, ◌<◌, ◌≤◌}
 use mathlib.Core.Path.{◌≡◌, refl, ap, sym, ◌∙◌}
 use mathlib.Core.Bool.{Bool, true, false, not}
@@ -12,21 +12,18 @@ use lib.Seq.{length-take-le}
 use Rattle.octets.specs.Choice.{pick, either}
 use Rattle.frame.specs.declared.Header.{Header}
 use Rattle.frame.specs.declared.Fault.{Fault}
-use Rattle.frame.specs.declared.TwoOctets.{TwoOctets}
-use Rattle.frame.specs.declared.Reading.{Reading as Answer}
-use Rattle.frame.specs.declared.Reading.TheVariants.{Whole, Faulty}
+use Rattle.frame.specs.declared.Whole.{Whole}
 use Rattle.frame.specs.Message.{Message}
 use Rattle.frame.specs.Encoding.{weight}
 use Rattle.frame.specs.Reading.{octet, reading_of}
-use Rattle.frame.specs.Decoding.{message_at, number_in, two_octets, held_at}
+use Rattle.frame.specs.Decoding.{message_at, two_octets, held_at}
 use Rattle.frame.specs.Stripping.{bare_to}
 use Rattle.frame.proofs.BareLaws.{bare-length}
 use Rattle.book.specs.declared.Terms.{Terms}
 use Rattle.book.specs.declared.Unit.{Unit as Value}
 use Rattle.book.specs.declared.Turn.{Turn}
-use Rattle.book.specs.declared.Verdict.TheVariants.{Done}
-use Rattle.book.specs.declared.Found.{Found}
-use Rattle.book.specs.declared.Found.TheVariants.{Place, Nowhere}
+use Rattle.book.specs.declared.Refusal.TheVariants.{WrongState, BadFrame, OtherTerms, Waits, Full}
+use Rattle.book.specs.declared.Refusal.{Refusal}
 use Rattle.book.specs.Book.{Msg, Frame, msg, good, send, start, dat, State, idle, single, multi, ending, assoc, Setup, refused, done, same_terms, settled, ids_of, waits, full, body_of, vet, bar_confirmed, bar, on_single, on_multi, on_shot, on_vetted, on_request}
 use Rattle.book.specs.View.{needed, viewed_as, viewed, reading_in, frame_octets, msg_octets, frame_message, frame_at}
 use Rattle.book.specs.Lines.{terms_octets}
@@ -89,7 +86,7 @@ module _ (f : List ℕ) (h : Header) where
 -- ---- a confirmed identifier waits
 
 module _ (f : List ℕ) (h : Header) (u : Value) where
-  pub join_sure : (i : TwoOctets) {id : ℕ} {v : Value} → h.confirmation ≡ 1 → number_in i ≡ two_octets (held_at f h.identifier) → id ≡ needed (number_in i) → v ≡ appended u id →
+  pub join_sure : (i : Option ℕ) {id : ℕ} {v : Value} → h.confirmation ≡ 1 → i ≡ two_octets (held_at f h.identifier) → id ≡ needed i → v ≡ appended u id →
       v ≡ joined u (ids_of (msg_at f h))
   unfolding ids_of message_at
   join_sure i c ei er ev = ev ∙ ap (appended u) (er ∙ ap needed ei) ∙ sym (ap (λ (m : Msg). joined u (ids_of m)) (msg_sure f h c))
@@ -115,7 +112,7 @@ module _ (s : Setup) (u : Value) where
   single_goes (ending T w t) e n a m = let z : ◌≡◌ {A = ℕ} 3 0 = rw e at n in absurd (omega arith)
   single_goes (assoc T w t) e n a m = let z : ◌≡◌ {A = ℕ} 4 0 = rw e at n in absurd (omega arith)
 
-  multi_goes : (st : State) → u ≡ picture s st → u.state ≡ 0 → (o : Option ℕ) (a : Terms) (m : Msg) →
+  multi_goes : (st : State) → u ≡ picture s st → u.state ≡ 0 → (o : Option Refusal) (a : Terms) (m : Msg) →
       Goes s (on_multi o a m st) (joined (keeping (entered u 2 (settled a)) (msg_octets m)) (ids_of m)) (send (start (settled a) None) ∷ [])
   unfolding on_multi
   multi_goes idle e n o a m = record { next = multi (settled a) m 0; outcome = refl; value = opened_multi s (settled a) u e m }
@@ -125,8 +122,8 @@ module _ (s : Setup) (u : Value) where
   multi_goes (assoc T w t) e n o a m = let z : ◌≡◌ {A = ℕ} 4 0 = rw e at n in absurd (omega arith)
 
   -- the refusal that a message meets in Associated
-  abbrev barred : Terms → Msg → Option ℕ
-  barred a m = pick (same_terms (settled a) u.terms) (bar_confirmed m (ids_in u)) (Some 3)
+  abbrev barred : Terms → Msg → Option Refusal
+  barred a m = pick (same_terms (settled a) u.terms) (bar_confirmed m (ids_in u)) (Some OtherTerms)
 
   bar_is : (st : State) → u ≡ picture s st → u.state ≡ 4 → (a : Terms) (m : Msg) → bar a m st ≡ barred a m
   unfolding bar
@@ -134,9 +131,9 @@ module _ (s : Setup) (u : Value) where
   bar_is (single T w t) e n a m = let z : ◌≡◌ {A = ℕ} 1 4 = rw e at n in absurd (omega arith)
   bar_is (multi T k t) e n a m = let z : ◌≡◌ {A = ℕ} 2 4 = rw e at n in absurd (omega arith)
   bar_is (ending T w t) e n a m = let z : ◌≡◌ {A = ℕ} 3 4 = rw e at n in absurd (omega arith)
-  bar_is (assoc T w t) e n a m = rw e (ap (λ l. pick (same_terms (settled a) T) (bar_confirmed m l) (Some 3)) (sym (Rattle.turn_laws.proofs.Moved.take-padded 8 w)))
+  bar_is (assoc T w t) e n a m = rw e (ap (λ l. pick (same_terms (settled a) T) (bar_confirmed m l) (Some OtherTerms)) (sym (Rattle.turn_laws.proofs.Moved.take-padded 8 w)))
 
-  refused_is : (st : State) → u ≡ picture s st → u.state ≡ 4 → (k : ℕ) (a : Terms) (m : Msg) → on_multi (Some k) a m st ≡ refused k
+  refused_is : (st : State) → u ≡ picture s st → u.state ≡ 4 → (k : Refusal) (a : Terms) (m : Msg) → on_multi (Some k) a m st ≡ refused k
   unfolding on_multi
   refused_is idle e n k a m = let z : ◌≡◌ {A = ℕ} 0 4 = rw e at n in absurd (omega arith)
   refused_is (single T w t) e n k a m = let z : ◌≡◌ {A = ℕ} 1 4 = rw e at n in absurd (omega arith)
@@ -165,7 +162,7 @@ module _ (s : Setup) (u : Value) where
       record { next = assoc T (w ++ (i ∷ [])) 0; outcome = ap (λ l. done (assoc T (w ++ l) 0) (send (dat (good (msg m) 0)) ∷ [])) q; value = sent_is s T w t u i e (rw e at l) }
 
   -- a state that the turn table does not give
-  single_refused : (st : State) → u ≡ picture s st → takes u.state 0 ≡ false → (a : Terms) (m : Msg) → on_single a m st ≡ refused 1
+  single_refused : (st : State) → u ≡ picture s st → takes u.state 0 ≡ false → (a : Terms) (m : Msg) → on_single a m st ≡ refused WrongState
   unfolding on_single takes
   single_refused idle e t a m = not_taken (sym (rw e at t))
   single_refused (single T w t₀) e t a m = refl
@@ -173,7 +170,7 @@ module _ (s : Setup) (u : Value) where
   single_refused (ending T w t₀) e t a m = refl
   single_refused (assoc T w t₀) e t a m = refl
 
-  multi_refused : (st : State) → u ≡ picture s st → takes u.state 1 ≡ false → (o : Option ℕ) (a : Terms) (m : Msg) → on_multi o a m st ≡ refused 1
+  multi_refused : (st : State) → u ≡ picture s st → takes u.state 1 ≡ false → (o : Option Refusal) (a : Terms) (m : Msg) → on_multi o a m st ≡ refused WrongState
   unfolding on_multi takes
   multi_refused idle e t o a m = not_taken (sym (rw e at t))
   multi_refused (single T w t₀) e t o a m = refl
@@ -199,11 +196,11 @@ module _ (s : Setup) (u : Value) where
 
 -- ---- who waits already
 
-found : Found → Bool
-found Nowhere = false
-found (Place i) = true
+found : Option ℕ → Bool
+found None = false
+found (Some i) = true
 
-found_pick : (b : Bool) (i : ℕ) (f : Found) → found (pick b (Place i) f) ≡ either b (found f)
+found_pick : (b : Bool) (i : ℕ) (f : Option ℕ) → found (pick b (Some i) f) ≡ either b (found f)
 unfolding found
 found_pick true i f = refl
 found_pick false i f = refl
@@ -228,7 +225,7 @@ module _ {u : Value} (k : Ready u) {f : List ℕ} {h : Header} (w : Reads f h 0)
   module _ (a : Terms) where
     pub asked_single : {t : Terms} {v x : Value} {r : Turn} {before after : List ℕ} {p : Pen} → u.state ≡ 0 → h.confirmation < 2 → t ≡ settled a
         → Laid before fresh ((0x30 ∷ t.class ∷ t.priority ∷ t.rer ∷ bare_to f h.end) ∷ []) after p → v ≡ entered u 1 t → x ≡ joined v (ids_of (msg_at f h))
-        → r ≡ record { unit = x; verdict = Done p.lines p.at } → Turned u (on_single a (msg_at f h) (state_of u)) before r after
+        → r ≡ record { unit = x; verdict = Ok (record { lines = p.lines; octets = p.at }) } → Turned u (on_single a (msg_at f h) (state_of u)) before r after
     unfolding msg_octets frame_octets frame_message
     asked_single {t = t} n l et y ev ex q =
         went (single_goes S u T k.whole n a M) (ex ∙ ap (λ z. joined z (ids_of M)) (ev ∙ ap (entered u 1) et))
@@ -236,7 +233,7 @@ module _ {u : Value} (k : Ready u) {f : List ℕ} {h : Header} (w : Reads f h 0)
 
     pub asked_multi : {t : Terms} {v x y : Value} {r : Turn} {before after : List ℕ} {p : Pen} → u.state ≡ 0 → h.confirmation < 2 → t ≡ settled a
         → Laid before fresh ((0x30 ∷ t.class ∷ t.priority ∷ t.rer ∷ []) ∷ []) after p → v ≡ entered u 2 t → x ≡ keeping v f → y ≡ joined x (ids_of (msg_at f h))
-        → r ≡ record { unit = y; verdict = Done p.lines p.at }
+        → r ≡ record { unit = y; verdict = Ok (record { lines = p.lines; octets = p.at }) }
         → Turned u (on_multi (bar a (msg_at f h) (state_of u)) a (msg_at f h) (state_of u)) before r after
     asked_multi {t = t} n l et z ev ex ey q =
         went (multi_goes S u T k.whole n (bar a M T) a M)
@@ -246,18 +243,18 @@ module _ {u : Value} (k : Ready u) {f : List ℕ} {h : Header} (w : Reads f h 0)
     -- ---- in Associated
     module _ (n : u.state ≡ 4) where
       pub ask_3 : {t : Terms} {b : Bool} → t ≡ settled a → b ≡ same_terms t u.terms → not b ≡ true →
-          on_multi (bar a (msg_at f h) (state_of u)) a (msg_at f h) (state_of u) ≡ refused 3
+          on_multi (bar a (msg_at f h) (state_of u)) a (msg_at f h) (state_of u) ≡ refused OtherTerms
       ask_3 et eb z =
           ap (λ o. on_multi o a M T)
-          (bar_is S u T k.whole n a M ∙ ap (λ y. pick y (bar_confirmed M (ids_in u)) (Some 3)) (ap (λ y. same_terms y u.terms) (sym et) ∙ sym eb ∙ borrow.Author.Tests.not-true _ z))
-          ∙ refused_is S u T k.whole n 3 a M
+          (bar_is S u T k.whole n a M ∙ ap (λ y. pick y (bar_confirmed M (ids_in u)) (Some OtherTerms)) (ap (λ y. same_terms y u.terms) (sym et) ∙ sym eb ∙ borrow.Author.Tests.not-true _ z))
+          ∙ refused_is S u T k.whole n OtherTerms a M
 
       pub same_made : {t : Terms} {b : Bool} → t ≡ settled a → b ≡ same_terms t u.terms → not b ≡ false → same_terms (settled a) u.terms ≡ true
       same_made et eb z = ap (λ y. same_terms y u.terms) (sym et) ∙ sym eb ∙ borrow.Author.Tests.not-false _ z
 
       module _ (same : same_terms (settled a) u.terms ≡ true) where
         bar_same : bar a M T ≡ bar_confirmed M (ids_in u)
-        bar_same = bar_is S u T k.whole n a M ∙ ap (λ y. pick y (bar_confirmed M (ids_in u)) (Some 3)) same
+        bar_same = bar_is S u T k.whole n a M ∙ ap (λ y. pick y (bar_confirmed M (ids_in u)) (Some OtherTerms)) same
 
         line_is : h.confirmation < 2 → (0x32 ∷ bare_to f h.end) ∷ [] ≡ said (send (dat (good (msg M) 0)) ∷ [])
         unfolding msg_octets frame_octets frame_message
@@ -265,46 +262,46 @@ module _ {u : Value} (k : Ready u) {f : List ℕ} {h : Header} (w : Reads f h 0)
 
         pub asked_next_plain : {v : Value} {r : Turn} {before after : List ℕ} {p : Pen} → h.confirmation ≡ 0
             → Laid before fresh ((0x32 ∷ bare_to f h.end) ∷ []) after p → v ≡ advanced u 4 0
-            → r ≡ record { unit = v; verdict = Done p.lines p.at }
+            → r ≡ record { unit = v; verdict = Ok (record { lines = p.lines; octets = p.at }) }
             → Turned u (on_multi (bar a (msg_at f h) (state_of u)) a (msg_at f h) (state_of u)) before r after
         unfolding bar_confirmed ids_of
         asked_next_plain c x e q =
             turned_as (ap (λ o. on_multi o a M T) (bar_same ∙ ap (λ m. bar_confirmed m (ids_in u)) (msg_plain f h c)))
             (went (next_plain S u T k.whole n a M (ap ids_of (msg_plain f h c))) e (line_is (omega arith)) x q)
 
-        module _ (c : h.confirmation ≡ 1) (i : TwoOctets) {id : ℕ} {g : Found} (ei : number_in i ≡ two_octets (held_at f h.identifier)) (er : id ≡ needed (number_in i))
+        module _ (c : h.confirmation ≡ 1) (i : Option ℕ) {id : ℕ} {g : Option ℕ} (ei : i ≡ two_octets (held_at f h.identifier)) (er : id ≡ needed i)
             (eg : g ≡ place_of id 0 (ids_in u)) where
           id_is : ids_of M ≡ id ∷ []
           unfolding ids_of message_at
           id_is = ap ids_of (msg_sure f h c) ∙ ap (λ y. y ∷ []) (sym (er ∙ ap needed ei))
 
-          bar_found : bar a M T ≡ pick (found g) (Some 4) (pick (leb 8 (length (ids_in u))) (Some 5) None)
+          bar_found : bar a M T ≡ pick (found g) (Some Waits) (pick (leb 8 (length (ids_in u))) (Some Full) None)
           unfolding bar_confirmed full message_at
           bar_found =
               bar_same ∙ ap (λ m. bar_confirmed m (ids_in u)) (msg_sure f h c)
-              ∙ ap (λ y. pick y (Some 4) (pick (leb 8 (length (ids_in u))) (Some 5) None))
+              ∙ ap (λ y. pick y (Some Waits) (pick (leb 8 (length (ids_in u))) (Some Full) None))
               (ap (λ y. waits y (ids_in u)) (sym (er ∙ ap needed ei)) ∙ waits_found id 0 (ids_in u) ∙ ap found (sym eg))
 
-          pub ask_4 : {j : ℕ} → g ≡ Place j → on_multi (bar a (msg_at f h) (state_of u)) a (msg_at f h) (state_of u) ≡ refused 4
+          pub ask_4 : {j : ℕ} → g ≡ Some j → on_multi (bar a (msg_at f h) (state_of u)) a (msg_at f h) (state_of u) ≡ refused Waits
           unfolding found
-          ask_4 e = ap (λ o. on_multi o a M T) (bar_found ∙ ap (λ y. pick (found y) (Some 4) (pick (leb 8 (length (ids_in u))) (Some 5) None)) e) ∙ refused_is S u T k.whole n 4 a M
+          ask_4 e = ap (λ o. on_multi o a M T) (bar_found ∙ ap (λ y. pick (found y) (Some Waits) (pick (leb 8 (length (ids_in u))) (Some Full) None)) e) ∙ refused_is S u T k.whole n Waits a M
 
-          module _ (e : g ≡ Nowhere) where
-            bar_full : bar a M T ≡ pick (leb 8 u.count) (Some 5) None
+          module _ (e : g ≡ None) where
+            bar_full : bar a M T ≡ pick (leb 8 u.count) (Some Full) None
             unfolding found
             bar_full =
-                bar_found ∙ ap (λ y. pick (found y) (Some 4) (pick (leb 8 (length (ids_in u))) (Some 5) None)) e
-                ∙ ap (λ y. pick (leb 8 y) (Some 5) None) (length-take-le u.count u.waiting (omega arith))
+                bar_found ∙ ap (λ y. pick (found y) (Some Waits) (pick (leb 8 (length (ids_in u))) (Some Full) None)) e
+                ∙ ap (λ y. pick (leb 8 y) (Some Full) None) (length-take-le u.count u.waiting (omega arith))
 
-            pub ask_5 : 8 ≤ u.count → on_multi (bar a (msg_at f h) (state_of u)) a (msg_at f h) (state_of u) ≡ refused 5
-            ask_5 l = ap (λ o. on_multi o a M T) (bar_full ∙ ap (λ y. pick y (Some 5) None) (le-leb 8 u.count l)) ∙ refused_is S u T k.whole n 5 a M
+            pub ask_5 : 8 ≤ u.count → on_multi (bar a (msg_at f h) (state_of u)) a (msg_at f h) (state_of u) ≡ refused Full
+            ask_5 l = ap (λ o. on_multi o a M T) (bar_full ∙ ap (λ y. pick y (Some Full) None) (le-leb 8 u.count l)) ∙ refused_is S u T k.whole n Full a M
 
             pub asked_next_sure : {v x : Value} {r : Turn} {before after : List ℕ} {p : Pen} → u.count < 8
                 → Laid before fresh ((0x32 ∷ bare_to f h.end) ∷ []) after p → v ≡ advanced u 4 0 → x ≡ appended v id
-                → r ≡ record { unit = x; verdict = Done p.lines p.at }
+                → r ≡ record { unit = x; verdict = Ok (record { lines = p.lines; octets = p.at }) }
                 → Turned u (on_multi (bar a (msg_at f h) (state_of u)) a (msg_at f h) (state_of u)) before r after
             asked_next_sure l y ev ex q =
-                turned_as (ap (λ o. on_multi o a M T) (bar_full ∙ ap (λ y. pick y (Some 5) None) (lt-leb 8 u.count l)))
+                turned_as (ap (λ o. on_multi o a M T) (bar_full ∙ ap (λ y. pick y (Some Full) None) (lt-leb 8 u.count l)))
                 (went (next_sure S u T k.whole n l a M id id_is) (ex ∙ ap (λ z. appended z id) ev) (line_is (omega arith)) y q)
 
 -- ---- by the turn table
@@ -327,11 +324,11 @@ module _ {u : Value} (k : Ready u) where
     unfolding on_shot
     shot_single e g = turned_as (ap (λ (x : Bool). on_shot x a (msg_at f h) (state_of u)) e) g
 
-    pub multi_1 : b ≡ true → {x : Bool} → x ≡ takes u.state 1 → x ≡ false → on_shot b a (msg_at f h) (state_of u) ≡ refused 1
+    pub multi_1 : b ≡ true → {x : Bool} → x ≡ takes u.state 1 → x ≡ false → on_shot b a (msg_at f h) (state_of u) ≡ refused WrongState
     unfolding on_shot
     multi_1 e q z = ap (λ (x : Bool). on_shot x a (msg_at f h) (state_of u)) e ∙ multi_refused (setup_of u) u (state_of u) k.whole (sym q ∙ z) (bar a (msg_at f h) (state_of u)) a (msg_at f h)
 
-    pub single_1 : b ≡ false → {x : Bool} → x ≡ takes u.state 0 → x ≡ false → on_shot b a (msg_at f h) (state_of u) ≡ refused 1
+    pub single_1 : b ≡ false → {x : Bool} → x ≡ takes u.state 0 → x ≡ false → on_shot b a (msg_at f h) (state_of u) ≡ refused WrongState
     unfolding on_shot
     single_1 e q z = ap (λ (x : Bool). on_shot x a (msg_at f h) (state_of u)) e ∙ single_refused (setup_of u) u (state_of u) k.whole (sym q ∙ z) a (msg_at f h)
 
@@ -358,37 +355,37 @@ unfolding vet
 vet_yes true k m e = ap (λ (k : ℕ). vet true (good (viewed_as k m) 0)) e ∙ sym (ap (λ (k : ℕ). Some (msg_in (good (viewed_as k m) 0))) e)
 vet_yes false k m e = ap (λ (k : ℕ). vet false (good (viewed_as k m) 0)) e ∙ sym (ap (λ (k : ℕ). Some (msg_in (good (viewed_as k m) 0))) e)
 
-module _ (u : Value) (confirmed : Bool) (a : Terms) (f : List ℕ) {x : Answer} (q : x ≡ reading_of f) where
-  pub ask_faulty : {y : Fault} → x ≡ Faulty y → on_request confirmed a (reading_in f) (state_of u) ≡ refused 2
+module _ (u : Value) (confirmed : Bool) (a : Terms) (f : List ℕ) {x : Result Whole Fault} (q : x ≡ reading_of f) where
+  pub ask_faulty : {y : Fault} → x ≡ Err y → on_request confirmed a (reading_in f) (state_of u) ≡ refused BadFrame
   unfolding on_request on_vetted vet
   ask_faulty e = ap (λ y. on_vetted a (vet confirmed y) (state_of u)) (faulty_reading f q e)
 
-  module _ {h : Header} {n : ℕ} (e : x ≡ Whole h n) where
-    reading_is : on_request confirmed a (reading_in f) (state_of u) ≡ on_vetted a (vet confirmed (good (frame_at f h) n)) (state_of u)
+  module _ {v : Whole} (e : x ≡ Ok v) where
+    reading_is : on_request confirmed a (reading_in f) (state_of u) ≡ on_vetted a (vet confirmed (good (frame_at f v.header) v.extensions)) (state_of u)
     unfolding on_request
-    reading_is = ap (λ y. on_vetted a (vet confirmed y) (state_of u)) (whole_reading f h n q e)
+    reading_is = ap (λ y. on_vetted a (vet confirmed y) (state_of u)) (whole_reading f v q e)
 
-    pub ask_extended : (n ≡ 0 → ⊥) → on_request confirmed a (reading_in f) (state_of u) ≡ refused 2
+    pub ask_extended : (v.extensions ≡ 0 → ⊥) → on_request confirmed a (reading_in f) (state_of u) ≡ refused BadFrame
     unfolding on_vetted
-    ask_extended z = reading_is ∙ ap (λ y. on_vetted a y (state_of u)) (vet_extended confirmed (frame_at f h) n z)
+    ask_extended z = reading_is ∙ ap (λ y. on_vetted a y (state_of u)) (vet_extended confirmed (frame_at f v.header) v.extensions z)
 
-    module _ (z : n ≡ 0) {k : ℕ} (ek : k ≡ weight confirmed 1) where
-      zero_is : on_request confirmed a (reading_in f) (state_of u) ≡ on_vetted a (vet confirmed (good (frame_at f h) 0)) (state_of u)
-      zero_is = reading_is ∙ ap (λ (m : ℕ). on_vetted a (vet confirmed (good (frame_at f h) m)) (state_of u)) z
+    module _ (z : v.extensions ≡ 0) {k : ℕ} (ek : k ≡ weight confirmed 1) where
+      zero_is : on_request confirmed a (reading_in f) (state_of u) ≡ on_vetted a (vet confirmed (good (frame_at f v.header) 0)) (state_of u)
+      zero_is = reading_is ∙ ap (λ (m : ℕ). on_vetted a (vet confirmed (good (frame_at f v.header) m)) (state_of u)) z
 
-      pub ask_other : (h.confirmation ≡ k → ⊥) → on_request confirmed a (reading_in f) (state_of u) ≡ refused 2
+      pub ask_other : (v.header.confirmation ≡ k → ⊥) → on_request confirmed a (reading_in f) (state_of u) ≡ refused BadFrame
       unfolding on_vetted viewed message_at
-      ask_other n = zero_is ∙ ap (λ y. on_vetted a y (state_of u)) (vet_no confirmed h.confirmation (message_at f h) (λ y. n (y ∙ sym ek)))
+      ask_other n = zero_is ∙ ap (λ y. on_vetted a y (state_of u)) (vet_no confirmed v.header.confirmation (message_at f v.header) (λ y. n (y ∙ sym ek)))
 
-      pub ask_vetted : {before after : List ℕ} {r : Turn} → h.confirmation ≡ k → k < 2 → Turned u (on_shot h.multi_shot a (msg_at f h) (state_of u)) before r after →
+      pub ask_vetted : {before after : List ℕ} {r : Turn} → v.header.confirmation ≡ k → k < 2 → Turned u (on_shot v.header.multi_shot a (msg_at f v.header) (state_of u)) before r after →
           Turned u (on_request confirmed a (reading_in f) (state_of u)) before r after
       unfolding on_vetted viewed message_at msg_at
       ask_vetted c l g =
-          turned_as (zero_is ∙ ap (λ y. on_vetted a y (state_of u)) (vet_yes confirmed h.confirmation (message_at f h) (c ∙ ek))
-          ∙ ap (λ (b : Bool). on_shot b a (msg_at f h) (state_of u)) (shot_is f h (omega arith))) g
+          turned_as (zero_is ∙ ap (λ y. on_vetted a y (state_of u)) (vet_yes confirmed v.header.confirmation (message_at f v.header) (c ∙ ek))
+          ∙ ap (λ (b : Bool). on_shot b a (msg_at f v.header) (state_of u)) (shot_is f v.header (omega arith))) g
 
-pub reads_zero : (f : List ℕ) (h : Header) (n : ℕ) {x : Answer} → x ≡ reading_of f → x ≡ Whole h n → n ≡ 0 → ((i : ℕ) → octet f i < 256) → Reads f h 0
-reads_zero f h n q e z small = reads_made f h 0 q (e ∙ ap (Whole h) z) small
+pub reads_zero : (f : List ℕ) (v : Whole) {x : Result Whole Fault} → x ≡ reading_of f → x ≡ Ok v → v.extensions ≡ 0 → ((i : ℕ) → octet f i < 256) → Reads f v.header 0
+reads_zero f v q e z small = rw z at (reads_made f v q e small)
 
 -- ---- nobody waits in Idle, so there is room for one
 

@@ -1,4 +1,5 @@
 -- Setup: within its limits a unit in Idle, else one with every number 0. Closed by the equations of `set_up`.
+use Rattle.std.specs.Prelude.{Ok}
 use Prim.Native.Nat.{ℕ, ◌≤◌}
 use mathlib.Core.Path.{◌≡◌, ap, sym, ◌∙◌}
 use mathlib.Core.Bool.{Bool, true, false}
@@ -9,7 +10,7 @@ use lib.ListN.{length}
 use Rattle.octets.specs.Choice.{both}
 use Rattle.book.specs.declared.Unit.{Unit as Value}
 use Rattle.book.specs.declared.Turn.{Turn}
-use Rattle.book.specs.declared.Verdict.TheVariants.{Done}
+use Rattle.book.specs.declared.Refusal.TheVariants.{BadSetup}
 use Rattle.book.specs.Book.{refused}
 use Rattle.book.specs.Picture.{padded}
 use Rattle.book.specs.Sound.{within_limits}
@@ -28,10 +29,10 @@ within_name start end inactivity letters e =
 
 module _ (start end inactivity : ℕ) (name : List ℕ) {b : Bool} (q : b ≡ within_limits start end inactivity (length name)) where
   pub set_up_lem : b ≡ true → {letters : List ℕ} {u : Value} {r : Turn} → letters ≡ padded 32 name → u ≡ made start end inactivity letters (length name) →
-      r ≡ record { unit = u; verdict = Done 0 0 } → r ≡ set_up start end inactivity name
+      r ≡ record { unit = u; verdict = Ok (record { lines = 0; octets = 0 }) } → r ≡ set_up start end inactivity name
   unfolding set_up
-  set_up_lem z el eu er = er ∙ rw (sym q ∙ z) (ap (λ v. record { unit = v; verdict = Done 0 0 }) (eu ∙ ap (λ l. made start end inactivity l (length name)) el ∙ made_is start end inactivity name))
+  set_up_lem z el eu er = er ∙ rw (sym q ∙ z) (ap (λ v. record { unit = v; verdict = Ok (record { lines = 0; octets = 0 }) }) (eu ∙ ap (λ l. made start end inactivity l (length name)) el ∙ made_is start end inactivity name))
 
-  pub not_set : b ≡ false → {u : Value} {r : Turn} → u ≡ blank → r ≡ turn_of u (refused 7) → r ≡ set_up start end inactivity name
+  pub not_set : b ≡ false → {u : Value} {r : Turn} → u ≡ blank → r ≡ turn_of u (refused BadSetup) → r ≡ set_up start end inactivity name
   unfolding set_up turn_of
   not_set z eu er = er ∙ rw (sym q ∙ z, eu)

@@ -1,5 +1,5 @@
 -- 10 and 11: one law for each way out. Closed by cases on the state and on the frame.
-use Rattle.std.specs.Prelude.{None, Option, Some}
+use Rattle.std.specs.Prelude.{None, Option, Some, Result, Ok, Err}
 use Prim.Native.Nat.{ℕ, zero, suc, ◌<◌, ◌≤◌}
 use mathlib.Core.Path.{◌≡◌, refl, ap, sym, ◌∙◌}
 use mathlib.Core.Bool.{Bool, true, false}
@@ -11,8 +11,7 @@ use lib.ListN.{length, take}
 use Rattle.octets.specs.Choice.{pick}
 use Rattle.frame.specs.declared.Header.{Header}
 use Rattle.frame.specs.declared.Fault.{Fault}
-use Rattle.frame.specs.declared.Reading.{Reading as Answer}
-use Rattle.frame.specs.declared.Reading.TheVariants.{Whole, Faulty}
+use Rattle.frame.specs.declared.Whole.{Whole}
 use Rattle.frame.specs.Message.{Message}
 use Rattle.frame.specs.Faults.{fault_number}
 use Rattle.frame.specs.Reading.{reading_of}
@@ -21,7 +20,6 @@ use Rattle.frame.specs.Stripping.{bare_to}
 use Rattle.book.specs.declared.Terms.{Terms}
 use Rattle.book.specs.declared.Unit.{Unit as Value}
 use Rattle.book.specs.declared.Turn.{Turn}
-use Rattle.book.specs.declared.Verdict.TheVariants.{Done}
 use Rattle.book.specs.Book.{Frame, msg, Reading, good, bad, Out, give, answer, send, reply, dat, cut, gone, State, idle, single, multi, ending, assoc, Setup, done, ids_of, waiting_of, body_of, ack, with_seen, fall, greet, first_contact, on_start, result_of, single_result, answered_by, refuse_all, begun, on_reply, local}
 use Rattle.book.specs.View.{needed, body_in, viewed_as, viewed, reading_in, frame_octets, msg_octets, frame_message, frame_at}
 use Rattle.book.specs.Lines.{terms_octets, result_number}
@@ -117,22 +115,22 @@ module _ {u : Value} (k : Ready u) where
 
   -- ---- the ways out of 10
   pub cut_made : (n : ℕ) {r : Turn} {before mid after : List ℕ} {p q : Pen} → u.state ≡ 0 → Laid before fresh (seen_lines n) mid p → Laid mid p ((0x35 ∷ 10 ∷ []) ∷ []) after q
-      → r ≡ record { unit = u; verdict = Done q.lines q.at } → Turned u (done idle (with_seen n (send (cut 10) ∷ []))) before r after
+      → r ≡ record { unit = u; verdict = Ok (record { lines = q.lines; octets = q.at }) } → Turned u (done idle (with_seen n (send (cut 10) ∷ []))) before r after
   cut_made n z x y q = gave refl (idle_value z) (seen_first n (send (cut 10) ∷ [])) (and_then x y) q
 
   pub fault_made : {reason : ℕ} {r : Turn} {before after : List ℕ} {p : Pen} → u.state ≡ 0 → Laid before fresh ((0x35 ∷ reason ∷ []) ∷ []) after p
-      → r ≡ record { unit = u; verdict = Done p.lines p.at } → Turned u (done idle (send (cut reason) ∷ [])) before r after
+      → r ≡ record { unit = u; verdict = Ok (record { lines = p.lines; octets = p.at }) } → Turned u (done idle (send (cut reason) ∷ [])) before r after
   fault_made z x q = gave refl (idle_value z) refl x q
 
   pub opened : (a : Terms) {v : Value} {r : Turn} {before after : List ℕ} {p : Pen} → u.state ≡ 0 → Laid before fresh ((0x31 ∷ 0 ∷ []) ∷ []) after p → v ≡ entered u 4 a
-      → r ≡ record { unit = v; verdict = Done p.lines p.at } → Turned u (first_contact (setup_of u) a None) before r after
+      → r ≡ record { unit = v; verdict = Ok (record { lines = p.lines; octets = p.at }) } → Turned u (first_contact (setup_of u) a None) before r after
   unfolding first_contact
   opened a z x e q = gave refl (e ∙ opened_assoc S a u (idle_value z)) refl x q
 
   module _ (a : Terms) {f : List ℕ} {h : Header} {n : ℕ} (w : Reads f h n) (z : u.state ≡ 0) (m : h.multi_shot ≡ false) where
     pub shot_plain : {r : Turn} {before b1 b2 after : List ℕ} {p₁ p₂ p₃ : Pen} → h.confirmation ≡ 0
         → Laid before fresh (seen_lines n) b1 p₁ → Laid b1 p₁ ((0x20 ∷ (terms_octets a ++ bare_to f h.end)) ∷ []) b2 p₂ → Laid b2 p₂ ((0x31 ∷ 1 ∷ []) ∷ []) after p₃
-        → r ≡ record { unit = u; verdict = Done p₃.lines p₃.at } → Turned u (greeted (setup_of u) a (frame_at f h) n) before r after
+        → r ≡ record { unit = u; verdict = Ok (record { lines = p₃.lines; octets = p₃.at }) } → Turned u (greeted (setup_of u) a (frame_at f h) n) before r after
     shot_plain c x y o q =
         gave (greeted_plain S a f h n c m) (idle_value z)
         (ap (λ l. seen_lines n ++ ((0x20 ∷ (terms_octets a ++ l)) ∷ (0x31 ∷ 1 ∷ []) ∷ [])) (sym (plain_octets f h w c))
@@ -141,7 +139,7 @@ module _ {u : Value} (k : Ready u) where
     pub shot_sure : {g : Note} {r : Turn} {before b1 b2 after : List ℕ} {p₁ p₂ p₃ : Pen} → h.confirmation < 2 → (h.confirmation ≡ 0 → ⊥)
         → Laid before fresh (seen_lines n) b1 p₁ → Laid b1 p₁ ((0x21 ∷ (terms_octets a ++ bare_to f h.end)) ∷ []) b2 p₂ → AckOf f h g
         → Laid b2 p₂ ((0x31 ∷ 1 ∷ note_octets g (take u.letters u.name)) ∷ []) after p₃
-        → r ≡ record { unit = u; verdict = Done p₃.lines p₃.at } → Turned u (greeted (setup_of u) a (frame_at f h) n) before r after
+        → r ≡ record { unit = u; verdict = Ok (record { lines = p₃.lines; octets = p₃.at }) } → Turned u (greeted (setup_of u) a (frame_at f h) n) before r after
     shot_sure {g = g} l c x y v o q =
         let d : h.confirmation ≡ 1 = omega arith in
         gave (greeted_sure S a f h n d m) (idle_value z)
@@ -157,16 +155,16 @@ module _ {u : Value} (k : Ready u) where
     pub start_none : {r : Turn} {before after : List ℕ} → length f ≡ 0 → Turned u (first_contact (setup_of u) a None) before r after → Turned u (on_start (setup_of u) a (or_nothing f) (state_of u)) before r after
     start_none z g = turned_as (by_start (nothing_is f z)) g
 
-    module _ (z : length f ≡ 0 → ⊥) {x : Answer} (q : x ≡ reading_of f) where
-      pub start_bad : {r : Turn} {before after : List ℕ} {y : Fault} {n : ℕ} → x ≡ Faulty y → n ≡ fault_number y → Turned u (done idle (send (cut n) ∷ [])) before r after →
+    module _ (z : length f ≡ 0 → ⊥) {x : Result Whole Fault} (q : x ≡ reading_of f) where
+      pub start_bad : {r : Turn} {before after : List ℕ} {y : Fault} {n : ℕ} → x ≡ Err y → n ≡ fault_number y → Turned u (done idle (send (cut n) ∷ [])) before r after →
           Turned u (on_start (setup_of u) a (or_nothing f) (state_of u)) before r after
       unfolding first_contact
       start_bad {n = n} e en g = turned_as (by_start (frame_is f z ∙ ap Some (faulty_reading f q e ∙ ap bad (sym en)))) g
 
-      pub start_good : {r : Turn} {before after : List ℕ} {h : Header} {n : ℕ} → x ≡ Whole h n → Turned u (greeted (setup_of u) a (frame_at f h) n) before r after →
+      pub start_good : {r : Turn} {before after : List ℕ} {v : Whole} → x ≡ Ok v → Turned u (greeted (setup_of u) a (frame_at f v.header) v.extensions) before r after →
           Turned u (on_start (setup_of u) a (or_nothing f) (state_of u)) before r after
       unfolding greeted
-      start_good {h = h} {n = n} e g = turned_as (by_start (frame_is f z ∙ ap Some (whole_reading f h n q e))) g
+      start_good {v = v} e g = turned_as (by_start (frame_is f z ∙ ap Some (whole_reading f v q e))) g
 
 -- ---- the rules of 11
 
@@ -280,20 +278,20 @@ module _ {u : Value} (k : Ready u) where
   pub reply_single : takes u.state 5 ≡ true → (u.state ≡ 2 → ⊥) → u.state ≡ 1
   reply_single t n = state_1 S₂ u T₂ k.whole t n
 
-  pub nobody_waits : (f : List ℕ) {v : Value} {r : Turn} {before : List ℕ} → u.state ≡ 1 → u.count ≡ 0 → v ≡ cleared u → r ≡ record { unit = v; verdict = Done 0 0 }
+  pub nobody_waits : (f : List ℕ) {v : Value} {r : Turn} {before : List ℕ} → u.state ≡ 1 → u.count ≡ 0 → v ≡ cleared u → r ≡ record { unit = v; verdict = Ok (record { lines = 0; octets = 0 }) }
       → Turned u (on_reply (setup_of u) false (or_nothing f) (state_of u)) before r before
   nobody_waits f n c e q = gave (answer_none S₂ u T₂ k.whole n c (or_nothing f)) (cleared_idle k e) refl (laid_none _ fresh) q
 
   pub unanswered : {v : Value} {r : Turn} {before after : List ℕ} {p : Pen} → u.state ≡ 1 → 1 ≤ u.count
       → Laid before fresh (map (answer_line (say_uncertain false) (take u.letters u.name)) (take 1 u.waiting)) after p → v ≡ cleared u
-      → r ≡ record { unit = v; verdict = Done p.lines p.at } → Turned u (on_reply (setup_of u) false None (state_of u)) before r after
+      → r ≡ record { unit = v; verdict = Ok (record { lines = p.lines; octets = p.at }) } → Turned u (on_reply (setup_of u) false None (state_of u)) before r after
   unanswered n c x e q =
       let w = answer_unsure S₂ u T₂ k.whole n c in
       gave w.0 (cleared_idle k e) w.1 x q
 
   pub answered : {f : List ℕ} {h : Header} {n : ℕ} {v : Value} {r : Turn} {before mid after : List ℕ} {p₁ p₂ : Pen} → u.state ≡ 1 → 1 ≤ u.count → Reads f h n
       → Laid before fresh (seen_lines n) mid p₁ → Laid mid p₁ ((34 ∷ pick (eqb h.confirmation 2) 0 1 ∷ bare_to f h.end) ∷ []) after p₂ → v ≡ cleared u
-      → r ≡ record { unit = v; verdict = Done p₂.lines p₂.at }
+      → r ≡ record { unit = v; verdict = Ok (record { lines = p₂.lines; octets = p₂.at }) }
       → Turned u (on_reply (setup_of u) false (Some (good (frame_at f h) n)) (state_of u)) before r after
   unfolding viewed message_at
   answered {f} {h} {n} z c w x y e q =
@@ -308,23 +306,23 @@ module _ {u : Value} (k : Ready u) where
         Turned u (on_reply (setup_of u) false (or_nothing f) (state_of u)) before r after
     answer_nothing z g = turned_as (ap (λ o. on_reply S₂ false o T₂) (nothing_is f z)) g
 
-    module _ (z : length f ≡ 0 → ⊥) {x : Answer} (q : x ≡ reading_of f) where
-      pub answer_faulty : {y : Fault} → u.state ≡ 1 → x ≡ Faulty y → Turned u (on_reply (setup_of u) false None (state_of u)) before r after →
+    module _ (z : length f ≡ 0 → ⊥) {x : Result Whole Fault} (q : x ≡ reading_of f) where
+      pub answer_faulty : {y : Fault} → u.state ≡ 1 → x ≡ Err y → Turned u (on_reply (setup_of u) false None (state_of u)) before r after →
           Turned u (on_reply (setup_of u) false (or_nothing f) (state_of u)) before r after
       answer_faulty n e g = turned_as (ap (λ o. on_reply S₂ false o T₂) (frame_is f z ∙ ap Some (faulty_reading f q e)) ∙ answer_bad S₂ u T₂ k.whole n _) g
 
-      pub answer_whole : {h : Header} {n : ℕ} → x ≡ Whole h n → Turned u (on_reply (setup_of u) false (Some (good (frame_at f h) n)) (state_of u)) before r after →
+      pub answer_whole : {v : Whole} → x ≡ Ok v → Turned u (on_reply (setup_of u) false (Some (good (frame_at f v.header) v.extensions)) (state_of u)) before r after →
           Turned u (on_reply (setup_of u) false (or_nothing f) (state_of u)) before r after
-      answer_whole {h} {n} e g = turned_as (ap (λ o. on_reply S₂ false o T₂) (frame_is f z ∙ ap Some (whole_reading f h n q e))) g
+      answer_whole {v} e g = turned_as (ap (λ o. on_reply S₂ false o T₂) (frame_is f z ∙ ap Some (whole_reading f v q e))) g
 
   -- ---- in Start-multi
   pub began : {v : Value} {r : Turn} {before after : List ℕ} {p : Pen} → u.state ≡ 2 → Laid before fresh ((50 ∷ take u.octets u.kept) ∷ []) after p → v ≡ entered u 4 u.terms
-      → r ≡ record { unit = v; verdict = Done p.lines p.at } → Turned u (on_reply (setup_of u) true None (state_of u)) before r after
+      → r ≡ record { unit = v; verdict = Ok (record { lines = p.lines; octets = p.at }) } → Turned u (on_reply (setup_of u) true None (state_of u)) before r after
   began n x e q = let b = begun_goes S₂ u T₂ k.whole n in went b.1 e b.2 x q
 
   pub turned_down : {v : Value} {r : Turn} {before mid after : List ℕ} {p₁ p₂ : Pen} → u.state ≡ 2
       → Laid before fresh (map (answer_line say_failed (take u.letters u.name)) (ids_in u)) mid p₁ → Laid mid p₁ ((0x24 ∷ 3 ∷ []) ∷ []) after p₂ → v ≡ cleared u
-      → r ≡ record { unit = v; verdict = Done p₂.lines p₂.at } → Turned u (on_reply (setup_of u) false None (state_of u)) before r after
+      → r ≡ record { unit = v; verdict = Ok (record { lines = p₂.lines; octets = p₂.at }) } → Turned u (on_reply (setup_of u) false None (state_of u)) before r after
   turned_down n x y e q =
       gave (turned_is S₂ u T₂ k.whole n None) (cleared_idle k e)
       (ap (λ w. map (answer_line say_failed S₂.name) w ++ ((0x24 ∷ 3 ∷ []) ∷ [])) (ids_are S₂ u T₂ k.whole) ∙ failed_lines S₂ (waiting_of T₂) (gone 3 ∷ [])) (and_then x y) q

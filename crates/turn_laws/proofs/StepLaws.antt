@@ -10,6 +10,7 @@ use Rattle.book.specs.declared.Unit.{Unit as Value}
 use Rattle.book.specs.declared.Turn.{Turn}
 use Rattle.book.specs.declared.Event.{Event}
 use Rattle.book.specs.declared.Event.TheVariants.{Malformed, Transfer, StartAsked, StartAnswered, Data}
+use Rattle.book.specs.declared.Refusal.TheVariants.{NoRoom, NoEvent, Unsound}
 use Rattle.book.specs.Book.{refused, on_request, on_start, on_reply, on_dat}
 use Rattle.book.specs.View.{reading_in}
 use Rattle.book.specs.Events.{event_of, frame_from}
@@ -47,18 +48,18 @@ module _ (u : Value) (ev f : List ℕ) {e : Event} {r : Turn} {before after : Li
   unfolding does
   does_data q z t = does_as u ev Data q (turned_as (ap (λ g. on_dat (setup_of u) (reading_in g) (state_of u)) (sym z)) t)
 
-pub does_malformed : (u : Value) (ev : List ℕ) {e : Event} → e ≡ Malformed → does (setup_of u) e (drop (frame_from e) ev) (state_of u) ≡ refused 8
+pub does_malformed : (u : Value) (ev : List ℕ) {e : Event} → e ≡ Malformed → does (setup_of u) e (drop (frame_from e) ev) (state_of u) ≡ refused NoEvent
 unfolding does
 does_malformed u ev q = ap (λ x. does (setup_of u) x (drop (frame_from x) ev) (state_of u)) q
 
 -- ---- the tests before the event
 
 module _ (room : ℕ) (u : Value) (ev : List ℕ) where
-  pub step_small : room < 1024 → step room u ev ≡ refused 6
+  pub step_small : room < 1024 → step room u ev ≡ refused NoRoom
   unfolding step
   step_small h = rw (lt-ltb room 1024 h)
 
-  pub step_unsound : 1024 ≤ room → {b : Bool} → b ≡ sound_of u → b ≡ false → step room u ev ≡ refused 9
+  pub step_unsound : 1024 ≤ room → {b : Bool} → b ≡ sound_of u → b ≡ false → step room u ev ≡ refused Unsound
   unfolding step
   step_unsound h q z = rw (le-ltb room 1024 h, sym q ∙ z)
 

@@ -1,13 +1,10 @@
--- `state::sound::distinct` meets its contract. The invariant: what is left to test says what the whole says (Scan).
-use Rattle.state.proofs.Scan.{differ_stop, differ_go, differ_end}
-use borrow.Author.Rules.{rules}
+-- `state::sound::distinct` meets its contract. The invariant: what is left of the list answers as the whole (Scan).
+use Rattle.std.proofs.Common.{rules}
+use Rattle.state.proofs.Scan.{differ_stop, differ_on}
 use Rattle.state.proofs.sound.distinct.Goals as goal
 
-pub returns-then-among : goal.returns-then-among
-returns-then-among c = search (differ_stop, rules)
+pub returns-then-is_among : goal.returns-then-is_among
+returns-then-is_among g c = search (differ_stop, rules)
 
 pub loop-i-preserved : goal.loop-i-preserved
-loop-i-preserved c = (search rules, search (differ_go, rules))
-
-pub returns : goal.returns
-returns c = search (differ_end, rules)
+loop-i-preserved g c = search (differ_on, rules)

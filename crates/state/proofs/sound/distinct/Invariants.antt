@@ -1,12 +1,8 @@
--- `state::sound::distinct` meets its contract. The invariant: what is left to test says what the whole says (Scan).
+-- `state::sound::distinct` meets its contract. The invariant: what is left of the list answers as the whole (Scan).
+use Rattle.std.proofs.Common.{◌≡◌, take}
+use Rattle.std.specs.List.{slice_range}
 use Rattle.book.specs.Sound.{differ}
-use lib.ListN.{drop, length}
-use mathlib.Core.Path.{◌≡◌}
-use Prim.Native.Nat.{◌≤◌, ◌-◌}
 use Rattle.state.proofs.sound.distinct.Given as goal
 
 abbrev pub invariant-loop-i : goal.invariant-loop-i
-invariant-loop-i l = (l.i ≤ length l.s) × (differ (drop l.i l.s) ≡ differ l.s)
-
-abbrev pub decreases-loop-i : goal.decreases-loop-i
-decreases-loop-i l = length l.s - l.i
+invariant-loop-i g l = let w = (g.S.Seen.unit l.u).waiting in differ (slice_range w l.i l.n) ≡ differ (take l.n w)

@@ -1,16 +1,18 @@
--- `state::waiting::find` meets its contract. The invariant: the place from i on is the place in the whole (WaitingLaws).
-use Rattle.state.proofs.WaitingLaws.{find_past, find_full, find_hit, find_on}
-use borrow.Author.Rules.{rules}
+-- `state::waiting::find` meets its contract. What the chain answers, in std's words; then `placed` of WaitingLaws.
+use Rattle.std.proofs.Common.{rules, tests}
+use Rattle.std.specs.Prelude.{◌≡◌, take, eqb}
+use Rattle.std.specs.List.{position}
+use Rattle.std.proofs.lemmas.Iterator.{YieldsList-from_slice, YieldsList-from_take}
+use Rattle.std.proofs.lemmas.Iterator.Search.{position_from_yields_List}
+use mathlib.Core.Path.{◌∙◌}
+use Rattle.state.proofs.WaitingLaws.{placed}
 use Rattle.state.proofs.waiting.find.Goals as goal
 
-pub returns-then-i-ge8 : goal.returns-then-i-ge8
-returns-then-i-ge8 c = search (find_full, rules)
-
-pub returns-then-id-w : goal.returns-then-id-w
-returns-then-id-w c = search (find_hit, rules)
-
-pub loop-i-preserved : goal.loop-i-preserved
-loop-i-preserved c = search (find_on, rules)
-
 pub returns : goal.returns
-returns c = search (find_past, rules)
+returns c =
+    let e : c.position.result ≡ position (λ x. eqb c.args.id x) (take c.args.n c.args.w) =
+    position_from_yields_List (λ x. eqb c.args.id x) _ _ c.position.result c.position.ensures.ran
+    (YieldsList-from_take c.args.n (YieldsList-from_slice c.args.w (cc)) c.take.ensures.count)
+    (λ x b q k. search (rules, tests))
+    in
+    e ∙ placed c.args.id (take c.args.n c.args.w)
