@@ -1,5 +1,5 @@
 -- Messages and the rule book's frames are the same thing, said twice: each way gives back what went in. Closed by cases on the confirmation.
-use Rattle.std.specs.Prelude.{None, Option, Some}
+use Rattle.std.specs.Prelude.{None, Option, Some, Result, Ok, Err}
 use Prim.Native.Nat.{ℕ, zero, suc, ◌≤◌, ◌<◌}
 use native.Mathlib.Omega.{arith}
 use mathlib.Core.Path.{◌≡◌, refl, ap, sym, ◌∙◌}
@@ -8,8 +8,7 @@ use mathlib.Core.List.{List}
 use lib.ListN.{length}
 use Rattle.frame.specs.declared.Header.{Header}
 use Rattle.frame.specs.declared.Fault.{Fault}
-use Rattle.frame.specs.declared.Reading.{Reading as Answer}
-use Rattle.frame.specs.declared.Reading.TheVariants.{Whole, Faulty}
+use Rattle.frame.specs.declared.Whole.{Whole}
 use Rattle.frame.specs.Message.{Message, Extension, present, lacks}
 use Rattle.frame.specs.Faults.{fault_number}
 use Rattle.frame.specs.Encoding.{frame_of, valid_extensions}
@@ -81,22 +80,22 @@ octets_short f a = Laws.short (frame_message f) a
 
 -- ---- a frame that was read by the code, as its header says
 
-pub reads_made : (s : List ℕ) (h : Header) (n : ℕ) {x : Answer} → x ≡ reading_of s → x ≡ Whole h n → ((i : ℕ) → octet s i < 256) → Reads s h n
-reads_made s h n q e small =
-    let k = known s small h n (sym q ∙ e) in
+pub reads_made : (s : List ℕ) (v : Whole) {x : Result Whole Fault} → x ≡ reading_of s → x ≡ Ok v → ((i : ℕ) → octet s i < 256) → Reads s v.header v.extensions
+reads_made s v q e small =
+    let k = known s small v (sym q ∙ e) in
     record { reads = sym q ∙ e; small = small; few = k.few; two = k.two; within = k.within; short = k.short }
 
-pub faulty_reading : (s : List ℕ) {x : Answer} {f : Fault} → x ≡ reading_of s → x ≡ Faulty f → reading_in s ≡ bad (fault_number f)
+pub faulty_reading : (s : List ℕ) {x : Result Whole Fault} {f : Fault} → x ≡ reading_of s → x ≡ Err f → reading_in s ≡ bad (fault_number f)
 unfolding reading_in decode
 faulty_reading s q e = rw (sym q ∙ e)
 
-pub whole_reading : (s : List ℕ) (h : Header) (n : ℕ) {x : Answer} → x ≡ reading_of s → x ≡ Whole h n → reading_in s ≡ good (frame_at s h) n
+pub whole_reading : (s : List ℕ) (v : Whole) {x : Result Whole Fault} → x ≡ reading_of s → x ≡ Ok v → reading_in s ≡ good (frame_at s v.header) v.extensions
 unfolding reading_in decode
-whole_reading s h n q e = rw (sym q ∙ e)
+whole_reading s v q e = rw (sym q ∙ e)
 
 module _ (s : List ℕ) (h : Header) {n : ℕ} (w : Reads s h n) where
   pub know : Known s h n
-  know = known s w.small h n w.reads
+  know = known s w.small (record { header = h; extensions = n }) w.reads
 
   pub view_octets : frame_octets (frame_at s h) ≡ bare_to s h.end
   unfolding frame_octets

@@ -1,9 +1,8 @@
 -- What the functions over a sound unit ask of it, and those over a frame that was read ask of the frame. A sound unit is ready (crate state,
 -- proofs/Sounds); a frame whose reading is whole reads so (proofs/Views).
 -- No public contract speaks of this file, only contracts of functions inside a crate: a reader of 01 may skip it.
-use Rattle.std.specs.Prelude.{ℕ, ◌≤◌, ◌<◌, ◌≡◌, List, length}
+use Rattle.std.specs.Prelude.{ℕ, ◌≤◌, ◌<◌, ◌≡◌, List, length, Ok}
 use Rattle.frame.specs.declared.Header.{Header}
-use Rattle.frame.specs.declared.Reading.TheVariants.{Whole}
 use Rattle.frame.specs.Reading.{octet, reading_of}
 use Rattle.book.specs.Picture.{picture, setup_of, state_of}
 use Rattle.book.specs.Sound.{limit_of}
@@ -22,7 +21,7 @@ pub record Ready (u : Value) : Type 0 where
 
 -- the octets s were read by the code as a whole frame: header h, n extension fields
 pub record Reads (s : List ℕ) (h : Header) (n : ℕ) : Type 0 where
-  pub reads : reading_of s ≡ Whole h n
+  pub reads : reading_of s ≡ Ok (record { header = h; extensions = n })
   pub small : (i : ℕ) → octet s i < 256
   -- what the code needs to know of the numbers, so that it is found here
   pub few : n ≤ 511

@@ -5,9 +5,9 @@ use mathlib.Core.List.{List, []}
 use mathlib.Core.Bool.{true}
 use mathlib.Core.Path.{◌≡◌, refl, ap, ◌∙◌}
 use lib.ListN.{length}
-use Rattle.frame.specs.declared.Header.{Header}
-use Rattle.frame.specs.declared.Reading.{Reading}
-use Rattle.frame.specs.declared.Reading.TheVariants.{Whole, Faulty}
+use Rattle.std.specs.Prelude.{Result, Ok, Err}
+use Rattle.frame.specs.declared.Fault.{Fault}
+use Rattle.frame.specs.declared.Whole.{Whole}
 use Rattle.frame.specs.Message.{Message, Extension}
 use Rattle.frame.specs.Encoding.{frame_of, encode, valid_extensions}
 use Rattle.frame.specs.Reading.{octet, reading_of}
@@ -38,27 +38,28 @@ reads_back m a = RoundTrip.reads_back m [] a refl (omega (arith, short m a))
 
 -- ---- of a frame that was read
 
--- the header behind a message that was decoded
+-- what was read, behind a message that was decoded
 record Read (s : List ℕ) (m : Message) (n : ℕ) : Type 0 where
-  header : Header
-  reads : reading_of s ≡ Whole header n
-  says : message_at s header ≡ m
+  whole : Whole
+  reads : reading_of s ≡ Ok whole
+  says : message_at s whole.header ≡ m
+  many : whole.extensions ≡ n
 
-read_inv : (s : List ℕ) (r : Reading) (m : Message) (n : ℕ) → reading_of s ≡ r → shown s r ≡ valid m n → Read s m n
-read_inv s (Whole h k) m n q e = record { header = h; reads = q ∙ ap (Whole h) (cc); says = cc }
-read_inv s (Faulty f) m n q e = let z : ◌≡◌ {A = ℕ} 0 1 = cc in absurd (omega arith)
+read_inv : (s : List ℕ) (r : Result Whole Fault) (m : Message) (n : ℕ) → reading_of s ≡ r → shown s r ≡ valid m n → Read s m n
+read_inv s (Ok w) m n q e = record { whole = w; reads = q; says = cc; many = cc }
+read_inv s (Err f) m n q e = let z : ◌≡◌ {A = ℕ} 0 1 = cc in absurd (omega arith)
 
 module _ (s : List ℕ) (small : Small s) (m : Message) (n : ℕ) (e : decode s ≡ valid m n) where
   read : Read s m n
   unfolding decode
   read = read_inv s (reading_of s) m n refl e
 
-  known : Inversion.Known s read.header n
-  known = Inversion.known s small read.header n read.reads
+  known : Inversion.Known s read.whole.header read.whole.extensions
+  known = Inversion.known s small read.whole read.reads
 
   -- a reader's message is one that the writer takes
   pub reads_allowed : Allowed m
-  reads_allowed = rw (← read.says) (allowed (message_at s read.header) known.sound)
+  reads_allowed = rw (← read.says) (allowed (message_at s read.whole.header) known.sound)
 
   -- writing it gives the frame without extensions: bit 7 clear, the extension fields gone
   pub writes_bare : encode m ≡ bare s
@@ -67,14 +68,14 @@ module _ (s : List ℕ) (small : Small s) (m : Message) (n : ℕ) (e : decode s 
 
   -- 1,024 octets hold at most 511 extension fields
   pub few : n ≤ 511
-  few = known.few
+  few = rw read.many at known.few
 
 -- Reading an edition 1 frame and writing it gives those octets.
 pub writes_back : (s : List ℕ) → Small s → (m : Message) → decode s ≡ valid m 0 → encode m ≡ s
 writes_back s small m e =
     let r = read s small m 0 e in
     let k = known s small m 0 e in
-    rw (← r.says) (k.writes ∙ k.whole refl)
+    rw (← r.says) (k.writes ∙ k.whole r.many)
 
 -- so an edition 1 frame has at most 554 octets, whoever wrote it
 pub edition_short : (s : List ℕ) → Small s → (m : Message) → decode s ≡ valid m 0 → length s ≤ 554

@@ -1,6 +1,6 @@
 -- Reading what any edition writes gives the message back, and the number of its extension fields. Closed field by field: each field's reader,
 -- on the octets that its writer puts behind a front, answers where they stand.
-use Rattle.std.specs.Prelude.{None, Option, Some}
+use Rattle.std.specs.Prelude.{None, Option, Some, Ok}
 use Prim.Native.Nat.{ℕ, zero, suc, ◌+◌, ◌*◌, ◌/◌, ◌%◌, ◌≤◌, ◌<◌}
 use native.Mathlib.Omega.{arith}
 use native.Mathlib.Nat.{mul-one, mul-zero, add-zero, add-suc}
@@ -10,35 +10,33 @@ use mathlib.Core.Path.{◌≡◌, refl, sym, ap, ◌∙◌}
 use lib.ListN.{length, drop, length-append}
 use lib.Seq.{get_or-append_seam, get_or-append-add, drop-append-add, take-append_seam, take-append-add}
 use lib.Dec.{ltb, eqb}
-use borrow.Author.Tests.{le-leb, lt-leb, le-ltb, ne_eqb, eqb-false, ltb-true}
+use borrow.Author.Tests.{le-leb, lt-leb, le-ltb, ne_eqb, ltb-true}
 use Rattle.octets.specs.Choice.{both}
-use Rattle.frame.specs.declared.Field.{Field}
-use Rattle.frame.specs.declared.Field.TheVariants.{Absent, At}
+use Rattle.frame.specs.declared.Place.{Place}
 use Rattle.frame.specs.declared.Header.{Header}
-use Rattle.frame.specs.declared.Reading.TheVariants.{Whole}
-use Rattle.frame.specs.declared.reader.Step.TheVariants.{Got}
-use Rattle.frame.specs.declared.reader.Opening.TheVariants.{Open}
-use Rattle.frame.specs.declared.reader.Rest.TheVariants.{Fields}
 use Rattle.frame.specs.Message.{Message, Extension, present}
 use Rattle.frame.specs.Encoding.{weight, first_octet, type_octets, number_octets, sender_octets, data_octets, extension_octets, valid_extensions, follows, frame_of}
-use Rattle.frame.specs.Reading.{bit, octet, number, opened, fixed_at, octets_at, sender_at, data_at, extension_at, extensions_from, rest_at, fields_of, reading_of}
+use Rattle.frame.specs.Reading.{Step, at_place, bit, octet, number, opened, fixed_at, octets_at, sender_at, data_at, extension_at, extensions_from, rest_at, fields_of, reading_of}
 use Rattle.frame.specs.Decoding.{held_at, one_octet, two_octets, message_at, valid, decode}
 use Rattle.frame.specs.Writing.{wrong_sender, wrong_data, Allowed}
 use Rattle.frame.proofs.ReaderLaws.{open_here, rest_end, rest_some, extensions_done}
 use Rattle.frame.proofs.WriterLaws.{Sound, sound, sender_range, data_range}
 
 -- where a field stands that is written at `at`
-abbrev type_field : Option ℕ → ℕ → Field
-type_field None at = Absent
-type_field (Some x) at = At at 1
+abbrev type_field : Option ℕ → ℕ → Option Place
+type_field None at = None
+type_field (Some x) at = at_place at 1
 
-abbrev number_field : Option ℕ → ℕ → Field
-number_field None at = Absent
-number_field (Some x) at = At at 2
+abbrev number_field : Option ℕ → ℕ → Option Place
+number_field None at = None
+number_field (Some x) at = at_place at 2
 
-abbrev long_field : Option (List ℕ) → ℕ → Field
-long_field None at = Absent
-long_field (Some s) at = At at (length s)
+abbrev long_field : Option (List ℕ) → ℕ → Option Place
+long_field None at = None
+long_field (Some s) at = at_place at (length s)
+
+abbrev got : Option Place → ℕ → Step
+got f at = Ok (f, at)
 
 -- ---- octets behind a front
 
@@ -49,7 +47,7 @@ at_seam_1 : (pre : List ℕ) (x y : ℕ) (rest : List ℕ) → octet (pre ++ (x 
 at_seam_1 pre x y rest = get_or-append-add pre (x ∷ y ∷ rest) 1 0
 
 -- a part that starts k octets behind the front, after the octets h
-held_behind : (s pre h t rest : List ℕ) (k : ℕ) → length h ≡ k → s ≡ pre ++ (h ++ (t ++ rest)) → held_at s (At (length pre + k) (length t)) ≡ Some t
+held_behind : (s pre h t rest : List ℕ) (k : ℕ) → length h ≡ k → s ≡ pre ++ (h ++ (t ++ rest)) → held_at s (at_place (length pre + k) (length t)) ≡ Some t
 unfolding held_at
 held_behind s pre h t rest k l q =
     let n = simp length-append at (ap length q) in
@@ -58,7 +56,7 @@ held_behind s pre h t rest k l q =
 
 module _ (s pre rest : List ℕ) where
   type_read : (k : Option ℕ) → s ≡ pre ++ (type_octets k ++ rest) →
-      fixed_at s (present k) 1 (length pre) ≡ Got (type_field k (length pre)) (length (pre ++ type_octets k))
+      fixed_at s (present k) 1 (length pre) ≡ Ok (type_field k (length pre), length (pre ++ type_octets k))
   unfolding fixed_at octets_at
   type_read None q = simp append-nil
   type_read (Some x) q =
@@ -71,7 +69,7 @@ module _ (s pre rest : List ℕ) where
   type_value (Some x) q = simp (rw add-zero at (held_behind s pre [] (x ∷ []) rest 0 refl q))
 
   number_read : (k : Option ℕ) → s ≡ pre ++ (number_octets k ++ rest) →
-      fixed_at s (present k) 2 (length pre) ≡ Got (number_field k (length pre)) (length (pre ++ number_octets k))
+      fixed_at s (present k) 2 (length pre) ≡ Ok (number_field k (length pre), length (pre ++ number_octets k))
   unfolding fixed_at octets_at
   number_read None q = simp append-nil
   number_read (Some x) q =
@@ -85,7 +83,7 @@ module _ (s pre rest : List ℕ) where
       simp (rw add-zero at (held_behind s pre [] (x / 256 ∷ x % 256 ∷ []) rest 0 refl q)) (ap Some (omega arith))
 
   sender_read : (k : Option (List ℕ)) → s ≡ pre ++ (sender_octets k ++ rest) → wrong_sender k ≡ false →
-      sender_at s (present k) (length pre) ≡ Got (long_field k (length pre + 1)) (length (pre ++ sender_octets k))
+      sender_at s (present k) (length pre) ≡ Ok (long_field k (length pre + 1), length (pre ++ sender_octets k))
   unfolding sender_at octets_at
   sender_read None q h = simp append-nil
   sender_read (Some t) q h =
@@ -100,7 +98,7 @@ module _ (s pre rest : List ℕ) where
         le-leb (length pre + 1 + length t) (length s) (omega arith),
         length-append,
       )
-      (ap (Got (At (length pre + 1) (length t))) (omega arith))
+      (ap (got (at_place (length pre + 1) (length t))) (omega arith))
 
   sender_value : (k : Option (List ℕ)) → s ≡ pre ++ (sender_octets k ++ rest) → held_at s (long_field k (length pre + 1)) ≡ k
   unfolding held_at
@@ -108,7 +106,7 @@ module _ (s pre rest : List ℕ) where
   sender_value (Some t) q = held_behind s pre (length t ∷ []) t rest 1 refl q
 
   data_read : (k : Option (List ℕ)) → s ≡ pre ++ (data_octets k ++ rest) → wrong_data k ≡ false →
-      data_at s (present k) (length pre) ≡ Got (long_field k (length pre + 2)) (length (pre ++ data_octets k))
+      data_at s (present k) (length pre) ≡ Ok (long_field k (length pre + 2), length (pre ++ data_octets k))
   unfolding data_at octets_at
   data_read None q h = simp append-nil
   data_read (Some t) q h =
@@ -123,7 +121,7 @@ module _ (s pre rest : List ℕ) where
         le-leb (length pre + 2 + length t) (length s) (omega arith),
         length-append,
       )
-      (ap (Got (At (length pre + 2) (length t))) (omega arith))
+      (ap (got (at_place (length pre + 2) (length t))) (omega arith))
 
   data_value : (k : Option (List ℕ)) → s ≡ pre ++ (data_octets k ++ rest) → held_at s (long_field k (length pre + 2)) ≡ k
   unfolding held_at
@@ -142,7 +140,7 @@ few_octets [] = omega arith
 few_octets (x ∷ xs) = omega (arith, length-append x.1 (extension_octets xs), few_octets xs)
 
 extension_read : (s pre t rest : List ℕ) (tag : ℕ) → s ≡ pre ++ (tag ∷ length t ∷ (t ++ rest)) → 0 < tag →
-    extension_at s (length pre) ≡ Got (At (length pre + 2) (length t)) (length (pre ++ (tag ∷ length t ∷ t)))
+    extension_at s (length pre) ≡ Ok (at_place (length pre + 2) (length t), length (pre ++ (tag ∷ length t ∷ t)))
 unfolding extension_at octets_at
 extension_read s pre t rest tag q h =
     let n = simp length-append at (ap length q) in
@@ -157,18 +155,18 @@ extension_read s pre t rest tag q h =
       le-leb (length pre + 2 + length t) (length s) (omega arith),
       length-append,
     )
-    (ap (Got (At (length pre + 2) (length t))) (omega arith))
+    (ap (got (at_place (length pre + 2) (length t))) (omega arith))
 
 -- one turn of the reader's loop
-turn : (s : List ℕ) (at next turns k n : ℕ) (f : Field) → at < length s → extension_at s at ≡ Got f next → extensions_from turns s next (k + 1) ≡ Fields n →
-    extensions_from (suc turns) s at k ≡ Fields n
+turn : (s : List ℕ) (at next turns k n : ℕ) (f : Option Place) → at < length s → extension_at s at ≡ Ok (f, next) → extensions_from turns s next (k + 1) ≡ Ok n →
+    extensions_from (suc turns) s at k ≡ Ok n
 unfolding extensions_from
 turn s at next turns k n f l e i = simp (lt-leb (length s) at l, e) i
 
 extensions_read : (xs : List Extension) (s pre : List ℕ) (turns k : ℕ) → s ≡ pre ++ extension_octets xs → valid_extensions xs ≡ true →
-    length xs ≤ turns → extensions_from turns s (length pre) k ≡ Fields (k + length xs)
+    length xs ≤ turns → extensions_from turns s (length pre) k ≡ Ok (k + length xs)
 extensions_read [] s pre turns k q v h =
-    extensions_done turns s (length pre) k (omega (arith, ap length (q ∙ append-nil pre))) ∙ ap Fields (sym (add-zero k))
+    extensions_done turns s (length pre) k (omega (arith, ap length (q ∙ append-nil pre))) ∙ ap Ok (sym (add-zero k))
 extensions_read (x ∷ xs) s pre zero k q v h = absurd (omega arith)
 extensions_read (x ∷ xs) s pre (suc turns) k q v h =
     let w = both_true (ltb 0 x.0) _ v in
@@ -178,17 +176,17 @@ extensions_read (x ∷ xs) s pre (suc turns) k q v h =
     let e = extension_read s pre x.1 (extension_octets xs) x.0 q (ltb-true 0 x.0 w.0) in
     let p = pre ++ (x.0 ∷ length x.1 ∷ x.1) in
     let f : s ≡ p ++ extension_octets xs = q ∙ simp append_assoc in
-    turn s (length pre) (length p) turns k _ _ (omega arith) e (extensions_read xs s p turns (k + 1) f w₃.1 (omega arith) ∙ ap Fields (omega arith))
+    turn s (length pre) (length p) turns k _ _ (omega arith) e (extensions_read xs s p turns (k + 1) f w₃.1 (omega arith) ∙ ap Ok (omega arith))
 
 rest_read : (xs : List Extension) (s pre : List ℕ) → s ≡ pre ++ extension_octets xs → valid_extensions xs ≡ true →
-    rest_at s (follows xs) (length pre) ≡ Fields (length xs)
+    rest_at s (follows xs) (length pre) ≡ Ok (length xs)
 rest_read [] s pre q v = sym (rest_end s (length pre) false refl (omega (arith, ap length (q ∙ append-nil pre))))
 rest_read (x ∷ xs) s pre q v =
     let n = simp length-append at (ap length q) in
     let f = few_octets (x ∷ xs) in
     let o = length-append x.1 (extension_octets xs) in
-    sym (rest_some s (length pre) true refl (omega arith) (Fields (length (x ∷ xs)))
-    (sym (extensions_read (x ∷ xs) s pre (length s) 0 q v (omega arith) ∙ ap Fields (native.Mathlib.Nat.zero-add (length (x ∷ xs))))))
+    sym (rest_some s (length pre) true refl (omega arith) (Ok (length (x ∷ xs)))
+    (sym (extensions_read (x ∷ xs) s pre (length s) 0 q v (omega arith) ∙ ap Ok (native.Mathlib.Nat.zero-add (length (x ∷ xs))))))
 
 -- ---- the bits of octet 0
 
@@ -328,16 +326,16 @@ module _ (m : Message) (xs : List Extension) where
     known : Sound m
     known = sound m a
 
-    opens : opened (frame_of m xs) ≡ Open F m.confirmation
+    opens : opened (frame_of m xs) ≡ Ok (F, m.confirmation)
     opens =
         let f = flag_bits in
         let n = simp length-append at (ap length split₁) in
         let o₀ : octet (frame_of m xs) 0 ≡ F = ap (λ (s : List ℕ). octet s 0) split₁ in
         let o₁ : octet (frame_of m xs) 1 ≡ m.confirmation = ap (λ (s : List ℕ). octet s 1) split₁ in
-        sym (simp (o₀, o₁) at (open_here (frame_of m xs) l (omega arith) (rw o₀ (eqb-false (F / 2 % 2) 1 f.bit1)) (omega arith) (rw o₁ known.confirmation_low) false
-        (simp (o₀, o₁, f.bit5, f.bit4, f.bit3) (sym known.nothing_lacks)) refl))
+        sym (simp (o₀, o₁) at (open_here (frame_of m xs) l (omega arith) false (rw o₀ (sym f.bit1)) refl (omega arith) (rw o₁ known.confirmation_low)
+        _ _ _ false refl refl refl (simp (o₀, o₁, f.bit5, f.bit4, f.bit3) (sym known.nothing_lacks)) refl))
 
-    fields_back : fields_of (frame_of m xs) F m.confirmation ≡ Whole header_of (length xs)
+    fields_back : fields_of (frame_of m xs) F m.confirmation ≡ Ok (record { header = header_of; extensions = length xs })
     unfolding fields_of
     fields_back =
         let f = flag_bits in
@@ -370,7 +368,7 @@ module _ (m : Message) (xs : List Extension) where
           data_value s front₅ rest₅ m.user_data split₅,
         )
 
-    pub reads_whole : reading_of (frame_of m xs) ≡ Whole header_of (length xs)
+    pub reads_whole : reading_of (frame_of m xs) ≡ Ok (record { header = header_of; extensions = length xs })
     unfolding reading_of
     reads_whole = simp opens fields_back
 

@@ -1,33 +1,33 @@
 -- What a field holds: one law for each way out of the functions that read a header's fields. Closed by `simp` with the tests, or by cases.
 use Rattle.std.specs.Prelude.{None, Option, Some}
-use Prim.Native.Nat.{ℕ, ◌+◌, ◌-◌, ◌*◌, ◌<◌, ◌≤◌}
+use Prim.Native.Nat.{ℕ, ◌+◌, ◌-◌, ◌<◌, ◌≤◌}
 use native.Mathlib.Omega.{arith}
 use native.Mathlib.Nat.{add-sub_cancel_left}
 use mathlib.Core.List.{List, [], ◌∷◌}
 use mathlib.Core.Path.{◌≡◌, refl, ap, ◌∙◌}
 use lib.ListN.{length, get_or, take, drop}
 use borrow.Author.Tests.{le-leb, lt-leb}
-use Rattle.frame.specs.declared.Field.{Field}
-use Rattle.frame.specs.declared.Field.TheVariants.{Absent, At}
+use Rattle.frame.specs.declared.Place.{Place}
+use Rattle.frame.specs.Reading.{number}
 use Rattle.frame.specs.Decoding.{held_at, octets_or, one_octet, two_octets, part_at}
 
-module _ (s : List ℕ) (f : Field) where
-  pub part_absent : f ≡ Absent → [] ≡ part_at s f
+module _ (s : List ℕ) (f : Option Place) where
+  pub part_absent : f ≡ None → [] ≡ part_at s f
   unfolding part_at held_at
   part_absent e = simp e
 
-  module _ (a n : ℕ) (e : f ≡ At a n) where
-    pub part_past : length s < a → [] ≡ part_at s f
+  module _ (p : Place) (e : f ≡ Some p) where
+    pub part_past : length s < p.start → [] ≡ part_at s f
     unfolding part_at held_at
-    part_past h = simp (e, lt-leb (a + n) (length s) (omega arith))
+    part_past h = simp (e, lt-leb (p.start + p.len) (length s) (omega arith))
 
-    pub part_short : a ≤ length s → length s - a < n → [] ≡ part_at s f
+    pub part_short : p.start ≤ length s → length s - p.start < p.len → [] ≡ part_at s f
     unfolding part_at held_at
-    part_short h l = simp (e, lt-leb (a + n) (length s) (omega arith))
+    part_short h l = simp (e, lt-leb (p.start + p.len) (length s) (omega arith))
 
-    pub part_here : a ≤ length s → n ≤ length s - a → take (a + n - a) (drop a s) ≡ part_at s f
+    pub part_here : p.start ≤ length s → p.len ≤ length s - p.start → take (p.start + p.len - p.start) (drop p.start s) ≡ part_at s f
     unfolding part_at held_at
-    part_here h l = simp (e, le-leb (a + n) (length s) (omega arith), add-sub_cancel_left a n)
+    part_here h l = simp (e, le-leb (p.start + p.len) (length s) (omega arith), add-sub_cancel_left p.start p.len)
 
 -- ---- a type is one octet, a number two
 
@@ -43,7 +43,7 @@ not_one (Some []) e = refl
 not_one (Some (x ∷ [])) e = absurd (e refl)
 not_one (Some (x ∷ y ∷ s)) e = refl
 
-two : (h : Option (List ℕ)) → length (octets_or h) ≡ 2 → Some (get_or (octets_or h) 0 0 * 256 + get_or (octets_or h) 1 0) ≡ two_octets h
+two : (h : Option (List ℕ)) → length (octets_or h) ≡ 2 → Some (number (octets_or h) 0) ≡ two_octets h
 two None e = absurd (omega arith)
 two (Some []) e = absurd (omega arith)
 two (Some (x ∷ [])) e = absurd (omega arith)
@@ -57,7 +57,7 @@ not_two (Some (x ∷ [])) e = refl
 not_two (Some (x ∷ y ∷ [])) e = absurd (e refl)
 not_two (Some (x ∷ y ∷ z ∷ s)) e = refl
 
-module _ (s : List ℕ) (f : Field) (o : List ℕ) (q : o ≡ part_at s f) where
+module _ (s : List ℕ) (f : Option Place) (o : List ℕ) (q : o ≡ part_at s f) where
   pub octet_one : length o ≡ 1 → Some (get_or o 0 0) ≡ one_octet (held_at s f)
   unfolding part_at
   octet_one e = rw q (one (held_at s f) (rw q at e))
@@ -66,9 +66,9 @@ module _ (s : List ℕ) (f : Field) (o : List ℕ) (q : o ≡ part_at s f) where
   unfolding part_at
   octet_none e = not_one (held_at s f) (λ z. e (ap length q ∙ z))
 
-  pub number_two : length o ≡ 2 → (x y : ℕ) → x ≡ get_or o 0 0 → y ≡ get_or o 1 0 → Some (x * 256 + y) ≡ two_octets (held_at s f)
+  pub number_two : length o ≡ 2 → (x : ℕ) → x ≡ number o 0 → Some x ≡ two_octets (held_at s f)
   unfolding part_at
-  number_two e x y ex ey = rw (ex, ey, q) (two (held_at s f) (rw q at e))
+  number_two e x ex = rw (ex, q) (two (held_at s f) (rw q at e))
 
   pub number_none : (length o ≡ 2 → ⊥) → None ≡ two_octets (held_at s f)
   unfolding part_at

@@ -1,91 +1,77 @@
--- The writer: its tests, each way out, what they make sure of; what each field's writer has put, and how a frame grows field by field.
-use Rattle.std.specs.Prelude.{None, Option, Some}
-use Prim.Native.Nat.{ℕ, suc, ◌+◌, ◌/◌, ◌%◌, ◌<◌, ◌≤◌}
+-- The writer: its tests, each way out, and what they make sure of; octet 0, and the whole frame.
+use Rattle.std.specs.Prelude.{None, Option, Some, Result, Ok, Err}
+use Rattle.std.specs.Option.{MatchOption, option_copied}
+use Rattle.std.specs.Bool.{⊤}
+use Prim.Native.Nat.{ℕ, ◌+◌, ◌*◌, ◌<◌, ◌≤◌}
 use native.Mathlib.Omega.{arith}
 use native.Mathlib.Nat.{zero-add}
 use mathlib.Core.List.{List, [], ◌∷◌, ◌++◌, append-nil}
-use mathlib.Core.Bool.{Bool, true, false, not}
+use mathlib.Core.Bool.{Bool, true, false}
 use mathlib.Core.Path.{◌≡◌, refl, sym, ap, ◌∙◌}
 use lib.ListN.{length}
-use lib.Seq.{sets}
 use lib.Dec.{ltb, eqb}
-use borrow.Author.Tests.{le-ltb, lt-ltb, eq-eqb, ne_eqb, ltb-false, eqb-false, not-true, not-false}
+use denote.Ref.{Bor}
+use mir.Val.{bool_byte}
+use borrow.Author.Tests.{le-ltb, lt-ltb, ltb-false, eqb-false}
 use Rattle.octets.specs.Choice.{pick, either}
 use Rattle.octets.specs.Put.{Put}
 use Rattle.octets.proofs.Puts as Puts
 use Rattle.frame.specs.Message.{Message, present, lacks}
 use Rattle.frame.specs.Encoding.{weight, first_octet, type_octets, number_octets, sender_octets, data_octets, frame_of, encode}
-use Rattle.frame.specs.Decoding.{octet_in, number_in}
-use Rattle.frame.specs.Writing.{lent, message_of, wrong_sender, wrong_data, fault_in, Allowed, refusal_of, check_of, Wrote, PutField, Room}
+use Rattle.frame.specs.Writing.{message_of, wrong_sender, wrong_data, fault_in, Allowed, refusal_of, check_of, Wrote, Room}
 use Rattle.frame.specs.declared.Fault.TheVariants.{BadOctet, BadLength, Lacking}
-use Rattle.frame.specs.declared.OneOctet.{OneOctet}
-use Rattle.frame.specs.declared.OneOctet.TheVariants.{NoOctet, Octet}
-use Rattle.frame.specs.declared.TwoOctets.{TwoOctets}
-use Rattle.frame.specs.declared.TwoOctets.TheVariants.{NoNumber, Number}
 use Rattle.frame.specs.declared.Parts.{Parts}
 use Rattle.frame.specs.declared.Refusal.{Refusal}
 use Rattle.frame.specs.declared.Refusal.TheVariants.{NoRoom, Faulty}
-use Rattle.frame.specs.declared.Written.TheVariants.{Octets, Refused}
-use Rattle.frame.specs.declared.writer.Check.{Check}
-use Rattle.frame.specs.declared.writer.Check.TheVariants.{Fits, Fails}
 
 -- ---- the tests: each way out
 
-module _ (p : Bool) (s : List ℕ) where
-  pub sender_absent : p ≡ false → false ≡ wrong_sender (lent p s)
-  unfolding wrong_sender
-  sender_absent e = simp e
+present_copied : (o : Option (Bor (List ℕ))) → present (option_copied o) ≡ present o
+present_copied None = refl
+present_copied (Some d) = refl
 
-  pub sender_empty : p ≡ true → length s ≡ 0 → true ≡ wrong_sender (lent p s)
-  unfolding wrong_sender
-  sender_empty e z = simp (e, eq-eqb (length s) 0 z)
+pub data_wrong : (o : Option (Bor (List ℕ))) (b : Bool) {P : Bor (List ℕ) → Type 0} → MatchOption o (b ≡ false) P →
+    ((d : Bor (List ℕ)) → P d → b ≡ ltb 512 (length d.now)) → b ≡ wrong_data (option_copied o)
+unfolding wrong_data
+data_wrong None b m h = m
+data_wrong (Some d) b m h = h d m
 
-  pub sender_other : p ≡ true → (length s ≡ 0 → ⊥) → ltb 32 (length s) ≡ wrong_sender (lent p s)
-  unfolding wrong_sender
-  sender_other e z = simp (e, ne_eqb (length s) 0 z)
+pub sender_wrong : (o : Option (Bor (List ℕ))) (b : Bool) {P : Bor (List ℕ) → Type 0} → MatchOption o (b ≡ false) P →
+    ((d : Bor (List ℕ)) → P d → b ≡ either (eqb (length d.now) 0) (ltb 32 (length d.now))) → b ≡ wrong_sender (option_copied o)
+unfolding wrong_sender
+sender_wrong None b m h = m
+sender_wrong (Some d) b m h = h d m
 
-  pub data_absent : p ≡ false → false ≡ wrong_data (lent p s)
-  unfolding wrong_data
-  data_absent e = simp e
-
-  pub data_there : p ≡ true → ltb 512 (length s) ≡ wrong_data (lent p s)
-  unfolding wrong_data
-  data_there e = simp e
-
-present_lent : (p : Bool) (s : List ℕ) → present (lent p s) ≡ p
-present_lent true s = refl
-present_lent false s = refl
-
-module _ (p : Parts) (s u : List ℕ) (room : ℕ) where
-  pub fails_room : room < 1024 → Fails NoRoom ≡ check_of (refusal_of room (message_of p s u))
+module _ (p : Parts) (room : ℕ) where
+  pub fails_room : room < 1024 → Err NoRoom ≡ check_of (refusal_of room (message_of p))
   unfolding refusal_of
   fails_room h = simp (lt-ltb room 1024 h)
 
   module _ (h : 1024 ≤ room) where
-    pub fails_confirmation : 4 < p.confirmation → Fails (Faulty BadOctet) ≡ check_of (refusal_of room (message_of p s u))
+    pub fails_confirmation : 4 < p.confirmation → Err (Faulty BadOctet) ≡ check_of (refusal_of room (message_of p))
     unfolding refusal_of fault_in
     fails_confirmation g = simp (le-ltb room 1024 h, lt-ltb 4 p.confirmation g)
 
-    module _ (g : p.confirmation ≤ 4) (i r x : Bool) (qi : i ≡ present (number_in p.identifier)) (qr : r ≡ present (number_in p.reference))
-        (qx : x ≡ lacks p.confirmation i r p.has_sender) where
-      q : x ≡ lacks p.confirmation (present (number_in p.identifier)) (present (number_in p.reference)) (present (lent p.has_sender s))
-      q = qx ∙ simp (qi, qr, present_lent p.has_sender s)
+    module _ (g : p.confirmation ≤ 4) (i r t x : Bool) (qi : i ≡ present p.identifier) (qr : r ≡ present p.reference) (qt : t ≡ present p.sender)
+        (qx : x ≡ lacks p.confirmation i r t) where
+      q : x ≡ lacks p.confirmation (present p.identifier) (present p.reference) (present (option_copied p.sender))
+      q = qx ∙ simp (qi, qr, qt, present_copied p.sender)
 
-      pub fails_lacking : x ≡ true → Fails (Faulty Lacking) ≡ check_of (refusal_of room (message_of p s u))
+      pub fails_lacking : x ≡ true → Err (Faulty Lacking) ≡ check_of (refusal_of room (message_of p))
       unfolding refusal_of fault_in
       fails_lacking e = simp (le-ltb room 1024 h, le-ltb 4 p.confirmation g, sym q ∙ e)
 
-      module _ (e : x ≡ false) (y : Bool) (qy : y ≡ wrong_sender (lent p.has_sender s)) where
-        pub fails_sender : y ≡ true → Fails (Faulty BadLength) ≡ check_of (refusal_of room (message_of p s u))
+      module _ (e : x ≡ false) (y : Bool) (qy : y ≡ wrong_sender (option_copied p.sender)) where
+        pub fails_sender : y ≡ true → Err (Faulty BadLength) ≡ check_of (refusal_of room (message_of p))
         unfolding refusal_of fault_in
         fails_sender ey = simp (le-ltb room 1024 h, le-ltb 4 p.confirmation g, sym q ∙ e, sym qy ∙ ey)
 
-        module _ (ey : y ≡ false) (z : Bool) (qz : z ≡ wrong_data (lent p.has_data u)) where
-          pub fails_data : z ≡ true → Fails (Faulty BadLength) ≡ check_of (refusal_of room (message_of p s u))
+        module _ (ey : y ≡ false) (z : Bool) (qz : z ≡ wrong_data (option_copied p.user_data)) where
+          pub fails_data : z ≡ true → Err (Faulty BadLength) ≡ check_of (refusal_of room (message_of p))
           unfolding refusal_of fault_in
           fails_data ez = simp (le-ltb room 1024 h, le-ltb 4 p.confirmation g, sym q ∙ e, sym qy ∙ ey, sym qz ∙ ez)
 
-          pub fails_not : z ≡ false → Fits ≡ check_of (refusal_of room (message_of p s u))
+          pub fails_not : z ≡ false → Ok tt ≡ check_of (refusal_of room (message_of p))
           unfolding refusal_of fault_in
           fails_not ez = simp (le-ltb room 1024 h, le-ltb 4 p.confirmation g, sym q ∙ e, sym qy ∙ ey, sym qz ∙ ez)
 
@@ -168,102 +154,43 @@ refused_none room m e =
     let w = roomy (ltb room 1024) (fault_in m) e in
     (ltb-false room 1024 w.0, w.1)
 
-check_fits : (o : Option Refusal) → check_of o ≡ Fits → o ≡ None
-check_fits None e = refl
-check_fits (Some r) e = let n : ◌≡◌ {A = ℕ} 0 1 = cc in absurd (omega arith)
+check_fits : (o : Option Refusal) (u : ⊤) → check_of o ≡ Ok u → o ≡ None
+check_fits None u e = refl
+check_fits (Some r) u e = let n : ◌≡◌ {A = ℕ} 0 1 = cc in absurd (omega arith)
 
-check_fails : (o : Option Refusal) (r : Refusal) → check_of o ≡ Fails r → o ≡ Some r
+check_fails : (o : Option Refusal) (r : Refusal) → check_of o ≡ Err r → o ≡ Some r
 check_fails None r e = let n : ◌≡◌ {A = ℕ} 0 1 = cc in absurd (omega arith)
 check_fails (Some x) r e = ap Some (cc)
 
-module _ (m : Message) (b : List ℕ) (k : Check) (q : k ≡ check_of (refusal_of (length b) m)) where
-  pub fits_room : k ≡ Fits → Room m b
-  fits_room e =
-      let w = refused_none (length b) m (check_fits (refusal_of (length b) m) (sym q ∙ e)) in
+module _ (m : Message) (b : List ℕ) (k : Result ⊤ Refusal) (q : k ≡ check_of (refusal_of (length b) m)) where
+  pub fits_room : {u : ⊤} → k ≡ Ok u → Room m b
+  fits_room {u} e =
+      let w = refused_none (length b) m (check_fits (refusal_of (length b) m) u (sym q ∙ e)) in
       let v = sound m w.1 in
       record { room = w.0; sender_fits = sender_33 m.sender v.sender_right; data_fits = data_514 m.user_data v.data_right }
 
-  pub wrote_not : (r : Refusal) → k ≡ Fails r → Wrote (refusal_of (length b) m) (encode m) b b (Refused r)
+  pub wrote_not : (r : Refusal) → k ≡ Err r → Wrote (refusal_of (length b) m) (encode m) b b (Err r)
   wrote_not r e = rw (check_fails (refusal_of (length b) m) r (sym q ∙ e)) (record { answers = refl; leaves = refl })
 
-  pub wrote_all : k ≡ Fits → (a : List ℕ) (n : ℕ) → Put b 0 (encode m) a n → Wrote (refusal_of (length b) m) (encode m) b a (Octets n)
-  wrote_all e a n g =
-      rw (check_fits (refusal_of (length b) m) (sym q ∙ e))
-      (record { answers = ap Octets (g.place ∙ zero-add (length (encode m))); leaves = g.held })
-
--- ---- a field's writer
-
-field_none : (b : List ℕ) (most : ℕ) → PutField [] most b b 0
-field_none b most = record { put = Puts.none b 0; small = omega arith }
-
-pub one_put : (b : List ℕ) (x : ℕ) → Put b 0 (x ∷ []) (lib.ListN.set b 0 x) 1
-one_put b x = record { held = refl; place = refl }
-
-pub pair_put : (b : List ℕ) (x y : ℕ) → Put b 0 (x ∷ y ∷ []) (lib.ListN.set (lib.ListN.set b 0 x) 1 y) 2
-pair_put b x y = record { held = refl; place = refl }
-
-pub type_none : (k : OneOctet) (b : List ℕ) → k ≡ NoOctet → PutField (type_octets (octet_in k)) 1 b b 0
-type_none k b e = rw e (field_none b 1)
-
-pub type_some : (k : OneOctet) (x : ℕ) (b a : List ℕ) → k ≡ Octet x → Put b 0 (x ∷ []) a 1 → PutField (type_octets (octet_in k)) 1 b a 1
-type_some k x b a e q = rw e (record { put = q; small = omega arith })
-
-pub number_none : (k : TwoOctets) (b : List ℕ) → k ≡ NoNumber → PutField (number_octets (number_in k)) 2 b b 0
-number_none k b e = rw e (field_none b 2)
-
-pub number_some : (k : TwoOctets) (n : ℕ) (b a : List ℕ) → k ≡ Number n → Put b 0 (n / 256 ∷ n % 256 ∷ []) a 2 →
-    PutField (number_octets (number_in k)) 2 b a 2
-number_some k n b a e q = rw e (record { put = q; small = omega arith })
-
--- a length of so many octets, then the octets themselves
-headed : (b xs ys h s : List ℕ) (n most : ℕ) → Put b 0 h xs n → ys ≡ sets xs n s → n + length s ≤ most → PutField (h ++ s) most b ys (n + length s)
-headed b xs ys h s n most p q l = record { put = Puts.then p (record { held = q; place = refl }); small = l }
-
-module _ (p : Bool) (s b : List ℕ) where
-  pub sender_none : not p ≡ true → PutField (sender_octets (lent p s)) 33 b b 0
-  sender_none e = rw (not-true p e) (field_none b 33)
-
-  pub data_none : not p ≡ true → PutField (data_octets (lent p s)) 514 b b 0
-  data_none e = rw (not-true p e) (field_none b 514)
-
-  module _ (e : not p ≡ false) (xs ys : List ℕ) where
-    pub sender_some : length (sender_octets (lent p s)) ≤ 33 → Put b 0 (length s % 256 ∷ []) xs 1 → ys ≡ sets xs 1 s →
-        PutField (sender_octets (lent p s)) 33 b ys (1 + length s)
-    sender_some l x y =
-        let t : p ≡ true = not-false p e in
-        let n : suc (length s) ≤ 33 = rw t at l in
-        let m : length s % 256 ≡ length s = omega arith in
-        rw t (headed b xs ys (length s ∷ []) s 1 33 (Puts.put_as (ap (λ (z : ℕ). z ∷ []) m) x) y (omega arith))
-
-    pub data_some : length (data_octets (lent p s)) ≤ 514 → Put b 0 (length s / 256 % 256 ∷ length s % 256 ∷ []) xs 2 → ys ≡ sets xs 2 s →
-        PutField (data_octets (lent p s)) 514 b ys (2 + length s)
-    data_some l x y =
-        let t : p ≡ true = not-false p e in
-        let n : suc (suc (length s)) ≤ 514 = rw t at l in
-        let m : length s / 256 % 256 ≡ length s / 256 = omega arith in
-        rw t (headed b xs ys (length s / 256 ∷ length s % 256 ∷ []) s 2 514 (Puts.put_as (ap (λ (z : ℕ). z ∷ length s % 256 ∷ []) m) x) y (omega arith))
-
-pub sender_length : (p : Bool) (s : List ℕ) → not p ≡ false → length (sender_octets (lent p s)) ≡ 1 + length s
-sender_length p s e = simp (not-false p e) (omega arith)
-
-pub data_length : (p : Bool) (s : List ℕ) → not p ≡ false → length (data_octets (lent p s)) ≡ 2 + length s
-data_length p s e = simp (not-false p e) (omega arith)
+  pub wrote_all : {u : ⊤} → k ≡ Ok u → (a : List ℕ) (n : ℕ) → Put b 0 (encode m) a n → Wrote (refusal_of (length b) m) (encode m) b a (Ok n)
+  wrote_all {u} e a n g =
+      rw (check_fits (refusal_of (length b) m) u (sym q ∙ e))
+      (record { answers = ap Ok (g.place ∙ zero-add (length (encode m))); leaves = g.held })
 
 -- ---- the whole
 
-pub flags_sum : (p : Parts) (k i r : Bool) → k ≡ present (octet_in p.message_type) → i ≡ present (number_in p.identifier) →
-    r ≡ present (number_in p.reference) → (a b c d e f : ℕ) → a ≡ weight k 64 → b ≡ weight i 32 → c ≡ weight r 16 →
-    d ≡ weight p.has_sender 8 → e ≡ weight p.has_data 4 → f ≡ weight p.multi_shot 1 →
-    a + b + c + d + e + f ≡ first_octet false (message_of p [] [])
-unfolding first_octet
-flags_sum p k i r qk qi qr a b c d e f qa qb qc qd qe qf =
-    simp (qa, qb, qc, qd, qe, qf, qk, qi, qr, present_lent p.has_sender [], present_lent p.has_data []) (omega arith)
+bool_weight : (b : Bool) (w : ℕ) → bool_byte b * w ≡ weight b w
+bool_weight true w = omega arith
+bool_weight false w = omega arith
 
--- octet 0 says whether a sender and user data are there, not what they are
-flags_any : (p : Parts) (s u : List ℕ) → first_octet false (message_of p [] []) ≡ first_octet false (message_of p s u)
+pub flags_sum : (p : Parts) (k i r s u : Bool) → k ≡ present p.message_type → i ≡ present p.identifier → r ≡ present p.reference →
+    s ≡ present p.sender → u ≡ present p.user_data → (a b c d e f : ℕ) → a ≡ bool_byte k → b ≡ bool_byte i → c ≡ bool_byte r →
+    d ≡ bool_byte s → e ≡ bool_byte u → f ≡ bool_byte p.multi_shot →
+    a * 64 + b * 32 + c * 16 + d * 8 + e * 4 + f ≡ first_octet false (message_of p)
 unfolding first_octet
-flags_any p s u =
-    simp (present_lent p.has_sender [], present_lent p.has_data [], present_lent p.has_sender s, present_lent p.has_data u)
+flags_sum p k i r s u qk qi qr qs qu a b c d e f qa qb qc qd qe qf =
+    simp (qa, qb, qc, qd, qe, qf, qk, qi, qr, qs, qu, present_copied p.sender, present_copied p.user_data, bool_weight)
+    (omega (arith, bool_weight p.multi_shot 1))
 
 -- an edition 1 frame, without the extension fields that it has not
 pub encode_is : (m : Message) → encode m
@@ -272,8 +199,7 @@ pub encode_is : (m : Message) → encode m
 unfolding encode frame_of
 encode_is m = append-nil _
 
-pub all_put : (p : Parts) (s u b xs : List ℕ) (f r : ℕ) → f ≡ first_octet false (message_of p [] []) →
-    Put b 0 ((((((f ∷ p.confirmation ∷ []) ++ type_octets (octet_in p.message_type)) ++ number_octets (number_in p.identifier))
-    ++ number_octets (number_in p.reference)) ++ sender_octets (lent p.has_sender s)) ++ data_octets (lent p.has_data u)) xs r →
-    Put b 0 (encode (message_of p s u)) xs r
-all_put p s u b xs f r q g = Puts.put_as (simp (q ∙ flags_any p s u) (sym (encode_is (message_of p s u)))) g
+pub all_put : (p : Parts) (b xs : List ℕ) (f r : ℕ) → f ≡ first_octet false (message_of p) →
+    Put b 0 ((((((f ∷ p.confirmation ∷ []) ++ type_octets p.message_type) ++ number_octets p.identifier) ++ number_octets p.reference)
+    ++ sender_octets (option_copied p.sender)) ++ data_octets (option_copied p.user_data)) xs r → Put b 0 (encode (message_of p)) xs r
+all_put p b xs f r q g = Puts.put_as (simp q (sym (encode_is (message_of p)))) g

@@ -1,23 +1,18 @@
 -- What a frame says: the values where its fields stand.
-use Rattle.std.specs.Prelude.{ℕ, ◌+◌, ◌*◌, List, [], ◌∷◌, take, drop, None, Option, Some}
+use Rattle.std.specs.Prelude.{ℕ, ◌+◌, ◌*◌, List, [], ◌∷◌, take, drop, None, Option, Some, Result, Ok, Err}
 use Rattle.octets.specs.Choice.{pick}
 use Rattle.frame.specs.Message.{Message}
 use Rattle.frame.specs.Faults.{fault_number}
 use Rattle.frame.specs.Reading.{room, reading_of}
-use Rattle.frame.specs.declared.Field.{Field}
-use Rattle.frame.specs.declared.Field.TheVariants.{Absent, At}
+use Rattle.frame.specs.declared.Fault.{Fault}
 use Rattle.frame.specs.declared.Header.{Header}
-use Rattle.frame.specs.declared.Reading.{Reading}
-use Rattle.frame.specs.declared.Reading.TheVariants.{Whole, Faulty}
-use Rattle.frame.specs.declared.OneOctet.{OneOctet}
-use Rattle.frame.specs.declared.OneOctet.TheVariants.{NoOctet, Octet}
-use Rattle.frame.specs.declared.TwoOctets.{TwoOctets}
-use Rattle.frame.specs.declared.TwoOctets.TheVariants.{NoNumber, Number}
+use Rattle.frame.specs.declared.Place.{Place}
+use Rattle.frame.specs.declared.Whole.{Whole}
 
 -- The octets of a field: none of an absent one, nor of one that does not lie within the frame.
-unfoldable pub held_at : List ℕ → Field → Option (List ℕ)
-held_at s Absent = None
-held_at s (At start len) = pick (room s start len) (Some (take len (drop start s))) None
+unfoldable pub held_at : List ℕ → Option Place → Option (List ℕ)
+held_at s None = None
+held_at s (Some p) = pick (room s p.start p.len) (Some (take p.len (drop p.start s))) None
 
 -- a type is one octet, an identifier or a reference two; anything else is none
 abbrev pub one_octet : Option (List ℕ) → Option ℕ
@@ -51,27 +46,17 @@ pub data Decoded : Type 0 where
   fault : (number : ℕ) → Decoded
 
 -- each case of the reader's answer, in 01's numbers and values
-abbrev pub shown : List ℕ → Reading → Decoded
-shown s (Whole h n) = valid (message_at s h) n
-shown s (Faulty f) = fault (fault_number f)
+abbrev pub shown : List ℕ → Result Whole Fault → Decoded
+shown s (Ok w) = valid (message_at s w.header) w.extensions
+shown s (Err f) = fault (fault_number f)
 
 unfoldable pub decode : List ℕ → Decoded
 decode s = shown s (reading_of s)
-
--- ---- the values of the code's small enums
-
-abbrev pub octet_in : OneOctet → Option ℕ
-octet_in NoOctet = None
-octet_in (Octet x) = Some x
-
-abbrev pub number_in : TwoOctets → Option ℕ
-number_in NoNumber = None
-number_in (Number n) = Some n
 
 -- the octets of a field as a part of the frame: the empty part where there are none
 abbrev pub octets_or : Option (List ℕ) → List ℕ
 octets_or None = []
 octets_or (Some s) = s
 
-unfoldable pub part_at : List ℕ → Field → List ℕ
-part_at s f = octets_or (held_at s f)
+unfoldable pub part_at : List ℕ → Option Place → List ℕ
+part_at s p = octets_or (held_at s p)

@@ -1,9 +1,9 @@
 -- A message (01, "The message frame"; field names of 000, 1.3.5 and 1.3.9).
-use Rattle.std.specs.Prelude.{ℕ, List, Bool, true, false, not, leb, eqb, None, Option, Some}
+use Rattle.std.specs.Prelude.{ℕ, List, Bool, not, leb, eqb, Option, is_some}
 use Rattle.octets.specs.Choice.{both, either}
 
 -- "userData present with length 0 is not userData absent; identifier 0 and type 0 are ordinary values":
--- an absent field is `none`; empty user data is `some []`, identifier 0 is `some 0`.
+-- an absent field is `None`; empty user data is `Some []`, identifier 0 is `Some 0`.
 pub record Message : Type 0 where
   -- true: maintained; false: single
   pub multi_shot : Bool
@@ -20,8 +20,7 @@ abbrev pub Extension : Type 0
 Extension = ℕ × List ℕ
 
 abbrev pub present : {A : Type 0} → Option A → Bool
-present None = false
-present (Some a) = true
+present o = is_some o
 
 -- "Confirmation 1 needs an identifier; 2, 3 and 4 need a reference and a sender."
 unfoldable pub lacks : ℕ → Bool → Bool → Bool → Bool

@@ -1,37 +1,30 @@
 -- Writing a frame (01, "The message frame").
 -- "The writer refuses with 6, then 13 (confirmation above 4), 15, 14, and otherwise writes an edition 1 frame."
-use Rattle.std.specs.Prelude.{ℕ, ◌≤◌, List, Bool, true, false, ◌≡◌, length, ltb, eqb, None, Option, Some}
+use Rattle.std.specs.Prelude.{ℕ, ◌≤◌, List, Bool, false, ◌≡◌, length, ltb, eqb, None, Option, Some, Result, Ok, Err}
+use Rattle.std.specs.Option.{option_copied}
+use Rattle.std.specs.Bool.{⊤}
 use Rattle.std.proofs.lemmas.List.Edits.{sets}
 use Rattle.octets.specs.Choice.{pick, either}
 use Rattle.octets.specs.Put.{Put}
 use Rattle.frame.specs.Message.{Message, present, lacks}
 use Rattle.frame.specs.Encoding.{sender_octets, data_octets}
-use Rattle.frame.specs.Decoding.{octet_in, number_in}
 use Rattle.frame.specs.declared.Fault.TheVariants.{BadOctet, BadLength, Lacking}
 use Rattle.frame.specs.declared.Parts.{Parts}
 use Rattle.frame.specs.declared.Refusal.{Refusal}
 use Rattle.frame.specs.declared.Refusal.TheVariants.{NoRoom, Faulty}
-use Rattle.frame.specs.declared.writer.Check.{Check}
-use Rattle.frame.specs.declared.writer.Check.TheVariants.{Fits, Fails}
-use Rattle.frame.specs.declared.Written.{Written}
-use Rattle.frame.specs.declared.Written.TheVariants.{Octets, Refused}
 
 -- ---- what the writer is given
 
-abbrev pub lent : Bool → List ℕ → Option (List ℕ)
-lent true s = Some s
-lent false s = None
-
--- the parts by value, the sender's and the data's octets lent beside them
-abbrev pub message_of : Parts → (sender user : List ℕ) → Message
-message_of p sender user = record {
+-- the parts: the octets of sender and user data are lent
+abbrev pub message_of : Parts → Message
+message_of p = record {
   multi_shot = p.multi_shot;
   confirmation = p.confirmation;
-  message_type = octet_in p.message_type;
-  message_identifier = number_in p.identifier;
-  message_reference = number_in p.reference;
-  sender = lent p.has_sender sender;
-  user_data = lent p.has_data user;
+  message_type = p.message_type;
+  message_identifier = p.identifier;
+  message_reference = p.reference;
+  sender = option_copied p.sender;
+  user_data = option_copied p.user_data;
 }
 
 -- ---- what it refuses
@@ -64,16 +57,16 @@ refusal_of room m = pick (ltb room 1024) (Some NoRoom) (fault_in m)
 
 -- ---- the answer, and the whole buffer afterwards: the frame and behind it the octets that were there, or all as it was
 
-abbrev pub answered : Option Refusal → (frame : List ℕ) → Written
-answered None frame = Octets (length frame)
-answered (Some r) frame = Refused r
+abbrev pub answered : Option Refusal → (frame : List ℕ) → Result ℕ Refusal
+answered None frame = Ok (length frame)
+answered (Some r) frame = Err r
 
 abbrev pub left : Option Refusal → (frame before : List ℕ) → List ℕ
 left None frame before = sets before 0 frame
 left (Some r) frame before = before
 
 -- a call that refuses with `refusal`, or writes `frame` at the front of the buffer
-pub record Wrote (refusal : Option Refusal) (frame before after : List ℕ) (r : Written) : Type 0 where
+pub record Wrote (refusal : Option Refusal) (frame before after : List ℕ) (r : Result ℕ Refusal) : Type 0 where
   pub answers : r ≡ answered refusal frame
   pub leaves : after ≡ left refusal frame before
 
@@ -84,9 +77,9 @@ pub record PutField (e : List ℕ) (most : ℕ) (before after : List ℕ) (r : �
   pub put : Put before 0 e after r
   pub small : r ≤ most
 
-abbrev pub check_of : Option Refusal → Check
-check_of None = Fits
-check_of (Some r) = Fails r
+abbrev pub check_of : Option Refusal → Result ⊤ Refusal
+check_of None = Ok tt
+check_of (Some r) = Err r
 
 -- what the writer has made sure of before it writes
 pub record Room (m : Message) (buffer : List ℕ) : Type 0 where

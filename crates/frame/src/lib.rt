@@ -6,18 +6,16 @@ ghost use Rattle.std.proofs.lemmas.List.Edits.{sets};
 ghost use Rattle.frame.specs.Faults.{fault_number, refusal_number};
 ghost use Rattle.frame.specs.Encoding.{encode};
 ghost use Rattle.frame.specs.Reading.{reading_of};
-ghost use Rattle.frame.specs.Decoding.{octet_in, number_in, one_octet, two_octets, held_at, part_at};
+ghost use Rattle.frame.specs.Decoding.{one_octet, two_octets, held_at, part_at};
 ghost use Rattle.frame.specs.Writing.{message_of, refusal_of, Wrote};
 ghost use Rattle.frame.specs.Stripping.{bare_to, bare, strip_refusal, edition_one};
-
-use reader::Opening;
-use writer::Check;
+ghost use Rattle.frame.specs.declared.Refusal.TheVariants.{Faulty};
 
 mod reader;
 mod writer;
 
-// What may be wrong with a frame: 11, 12, 13, 14, 15, 16.
-#[derive(Clone, Copy)]
+// What may be wrong with a frame.
+#[derive(Clone, Copy, PartialEq, Eq)]
 pub enum Fault {
     TooLong,
     Incomplete,
@@ -27,114 +25,102 @@ pub enum Fault {
     LeftOver,
 }
 
-// A field that may be absent: where its octets stand (after its length, where it has one), and how many they are.
-#[derive(Clone, Copy)]
-pub enum Field {
-    Absent,
-    At { start: usize, len: usize },
+// 01's number of a fault.
+impl From<Fault> for u8 {
+    ghost from_gives = { λ f n. n ≡ fault_number f };
+
+    fn from(f: Fault) -> u8 {
+        match f {
+            Fault::TooLong => 11,
+            Fault::Incomplete => 12,
+            Fault::BadOctet => 13,
+            Fault::BadLength => 14,
+            Fault::Lacking => 15,
+            Fault::LeftOver => 16,
+        }
+    }
 }
 
-// A whole message: what its first two octets say, and where its fields stand.
-#[derive(Clone, Copy)]
+// Where a field's octets stand (after its length, where it has one), and how many they are.
+#[derive(Clone, Copy, PartialEq, Eq)]
+pub struct Place {
+    pub start: usize,
+    pub len: usize,
+}
+
+// What the first two octets say, and where the fields stand that are there.
+#[derive(Clone, Copy, PartialEq, Eq)]
 pub struct Header {
     pub multi_shot: bool,
     pub confirmation: u8,
-    pub message_type: Field,
-    pub identifier: Field,
-    pub reference: Field,
-    pub sender: Field,
-    pub user_data: Field,
+    pub message_type: Option<Place>,
+    pub identifier: Option<Place>,
+    pub reference: Option<Place>,
+    pub sender: Option<Place>,
+    pub user_data: Option<Place>,
     // The place after the fields, where extension fields begin.
     pub end: usize,
 }
 
-// What reading a frame answers: the whole message and how many extension fields follow it, or the fault.
-#[derive(Clone, Copy)]
-pub enum Reading {
-    Whole { header: Header, extensions: usize },
-    Faulty(Fault),
+// A whole message, and how many extension fields follow it.
+#[derive(Clone, Copy, PartialEq, Eq)]
+pub struct Whole {
+    pub header: Header,
+    pub extensions: usize,
 }
 
-// The value of a type.
+// What the writer is given: the octets of sender and user data are lent.
 #[derive(Clone, Copy)]
-pub enum OneOctet {
-    NoOctet,
-    Octet(u8),
-}
-
-// The value of an identifier or a reference.
-#[derive(Clone, Copy)]
-pub enum TwoOctets {
-    NoNumber,
-    Number(u16),
-}
-
-// What the writer is given by value; the octets of sender and user data are lent beside it.
-#[derive(Clone, Copy)]
-pub struct Parts {
+pub struct Parts<'a> {
     pub multi_shot: bool,
     pub confirmation: u8,
-    pub message_type: OneOctet,
-    pub identifier: TwoOctets,
-    pub reference: TwoOctets,
-    pub has_sender: bool,
-    pub has_data: bool,
+    pub message_type: Option<u8>,
+    pub identifier: Option<u16>,
+    pub reference: Option<u16>,
+    pub sender: Option<&'a [u8]>,
+    pub user_data: Option<&'a [u8]>,
 }
 
-// Why nothing was written: the lent buffer is below 1,024 octets (6), or a fault.
-#[derive(Clone, Copy)]
+// Why nothing was written: the lent buffer is below 1,024 octets, or a fault.
+#[derive(Clone, Copy, PartialEq, Eq)]
 pub enum Refusal {
     NoRoom,
     Faulty(Fault),
 }
 
-// How many octets were written, or why none.
-#[derive(Clone, Copy)]
-pub enum Written {
-    Octets(usize),
-    Refused(Refusal),
-}
+impl From<Fault> for Refusal {
+    ghost from_gives = { λ f r. r ≡ Faulty f };
 
-// The whole message, or the first fault.
-pub fn read(frame: &[u8]) -> Reading
-    ensures { result ≡ reading_of frame.now }
-{
-    let opening = reader::open(frame);
-    let Opening::Open(flags, confirmation) = opening else {
-        return Reading::Faulty(reader::shut_of(opening));
-    };
-    reader::fields(frame, flags, confirmation)
-}
-
-// 01's number of a fault.
-pub fn fault_number(f: Fault) -> u8
-    ensures { result ≡ fault_number f }
-{
-    match f {
-        Fault::TooLong => 11,
-        Fault::Incomplete => 12,
-        Fault::BadOctet => 13,
-        Fault::BadLength => 14,
-        Fault::Lacking => 15,
-        Fault::LeftOver => 16,
+    fn from(f: Fault) -> Refusal {
+        Refusal::Faulty(f)
     }
 }
 
 // 01's number of a refusal.
-pub fn refusal_number(r: Refusal) -> u8
-    ensures { result ≡ refusal_number r }
-{
-    match r {
-        Refusal::NoRoom => 6,
-        Refusal::Faulty(f) => fault_number(f),
+impl From<Refusal> for u8 {
+    ghost from_gives = { λ r n. n ≡ refusal_number r };
+
+    fn from(r: Refusal) -> u8 {
+        match r {
+            Refusal::NoRoom => 6,
+            Refusal::Faulty(f) => u8::from(f),
+        }
     }
 }
 
-// The octets of a field, as that part of the caller's frame; the empty part of an absent field, or of one that does not lie within the frame.
-pub fn part(frame: &[u8], field: Field) -> &[u8]
-    ensures { result.now ≡ part_at frame.now field }
+// The whole message, or the first fault.
+pub fn read(frame: &[u8]) -> Result<Whole, Fault>
+    ensures { result ≡ reading_of frame.now }
 {
-    let Field::At { start, len } = field else {
+    let (flags, confirmation) = reader::open(frame)?;
+    reader::fields(frame, flags, confirmation)
+}
+
+// The octets of a field, as that part of the caller's frame; the empty part of an absent field, or of one that does not lie within the frame.
+pub fn part(frame: &[u8], place: Option<Place>) -> &[u8]
+    ensures { result.now ≡ part_at frame.now place }
+{
+    let Some(Place { start, len }) = place else {
         return &frame[..0];
     };
     if frame.len() < start {
@@ -150,51 +136,42 @@ pub fn part(frame: &[u8], field: Field) -> &[u8]
 pub fn sender(frame: &[u8], header: Header) -> &[u8]
     ensures { result.now ≡ part_at frame.now header.sender }
 {
-    let field = header.sender;
-    part(frame, field)
+    part(frame, header.sender)
 }
 
 // The very octets of the user data.
 pub fn user_data(frame: &[u8], header: Header) -> &[u8]
     ensures { result.now ≡ part_at frame.now header.user_data }
 {
-    let field = header.user_data;
-    part(frame, field)
+    part(frame, header.user_data)
 }
 
 // The value of a type field; none of a field that is not one octet of this frame.
-pub fn one_octet(frame: &[u8], field: Field) -> OneOctet
-    ensures { octet_in result ≡ one_octet (held_at frame.now field) }
+pub fn one_octet(frame: &[u8], place: Option<Place>) -> Option<u8>
+    ensures { result ≡ one_octet (held_at frame.now place) }
 {
-    let held = part(frame, field);
-    if held.len() == 1 {
-        return OneOctet::Octet(held[0]);
-    }
-    OneOctet::NoOctet
+    let held = part(frame, place);
+    if held.len() == 1 { Some(held[0]) } else { None }
 }
 
 // The value of an identifier or a reference; none of a field that is not two octets of this frame.
-pub fn two_octets(frame: &[u8], field: Field) -> TwoOctets
-    ensures { number_in result ≡ two_octets (held_at frame.now field) }
+pub fn two_octets(frame: &[u8], place: Option<Place>) -> Option<u16>
+    ensures { result ≡ two_octets (held_at frame.now place) }
 {
-    let held = part(frame, field);
+    let held = part(frame, place);
     if held.len() == 2 {
-        let high = octets::wide16(held[0]);
-        let low = octets::wide16(held[1]);
-        return TwoOctets::Number(high * 256 + low);
+        Some(u16::from_be_bytes([held[0], held[1]]))
+    } else {
+        None
     }
-    TwoOctets::NoNumber
 }
 
 // Writes an edition 1 frame at the front of `out`, or refuses and leaves it as it was.
-pub fn write(parts: Parts, sender: &[u8], data: &[u8], out: &mut [u8]) -> Written
-    ensures { Wrote (refusal_of (length out.old) (message_of parts sender.now «data».now)) (encode (message_of parts sender.now «data».now)) out.old out.new result }
+pub fn write(parts: Parts, out: &mut [u8]) -> Result<usize, Refusal>
+    ensures { Wrote (refusal_of (length out.old) (message_of parts.entry)) (encode (message_of parts.entry)) out.old out.new result }
 {
-    let check = writer::tested(parts, sender, data, out.len());
-    match check {
-        Check::Fails(r) => Written::Refused(r),
-        Check::Fits => Written::Octets(writer::put_all(parts, sender, data, out)),
-    }
+    writer::tested(parts, out.len())?;
+    Ok(writer::put_all(parts, out))
 }
 
 // Puts a frame without its extension fields, which begin at `end`, into `out` from the place `at` on.
@@ -215,33 +192,20 @@ pub fn put_bare(frame: &[u8], end: usize, out: &mut [u8], at: usize)
 }
 
 // Writes the frame without extensions of a received frame at the front of `out`, or refuses and leaves it as it was.
-pub fn strip(frame: &[u8], out: &mut [u8]) -> Written
+pub fn strip(frame: &[u8], out: &mut [u8]) -> Result<usize, Refusal>
     ensures { Wrote (strip_refusal (length out.old) frame.now) (bare frame.now) out.old out.new result }
 {
     if out.len() < 1024 {
-        return Written::Refused(Refusal::NoRoom);
+        return Err(Refusal::NoRoom);
     }
-    match read(frame) {
-        Reading::Faulty(f) => Written::Refused(Refusal::Faulty(f)),
-        Reading::Whole {
-            header,
-            extensions: _,
-        } => {
-            put_bare(frame, header.end, out, 0);
-            Written::Octets(header.end)
-        }
-    }
+    let whole = read(frame)?;
+    put_bare(frame, whole.header.end, out, 0);
+    Ok(whole.header.end)
 }
 
 // Whether a frame is an edition 1 frame.
 pub fn is_edition_one(frame: &[u8]) -> bool
     ensures { result ≡ edition_one frame.now }
 {
-    match read(frame) {
-        Reading::Faulty(_) => false,
-        Reading::Whole {
-            header: _,
-            extensions,
-        } => extensions == 0,
-    }
+    read(frame).is_ok_and(|whole| whole.extensions == 0)
 }

@@ -1,46 +1,33 @@
 // The field readers. Each answers the field and the place after it, or the fault.
-ghost use Rattle.std.specs.Prelude.{◌≡◌, length};
+ghost use Rattle.std.specs.Prelude.{◌≡◌, ◌<◌, length};
 ghost use Rattle.frame.specs.Message.{lacks};
-ghost use Rattle.frame.specs.Reading.{opened, fixed_at, sender_at, data_at, extension_at, extensions_from, rest_at, fields_of, fault_of, shut_of, wrong_of};
+ghost use Rattle.frame.specs.Reading.{bit, opened, fixed_at, sender_at, data_at, extension_at, extensions_from, rest_at, fields_of};
 
-use crate::{Fault, Field, Header, Reading};
-use octets::wide;
+use crate::{Fault, Header, Place, Whole};
+
+// The most octets that a frame has.
+const LONGEST: usize = 1024;
 
 // What a field reader answers.
-#[derive(Clone, Copy)]
-pub(crate) enum Step {
-    Got(Field, usize),
-    Bad(Fault),
-}
+type Step = Result<(Option<Place>, usize), Fault>;
 
-// What the first two octets answer: themselves, or the fault.
-#[derive(Clone, Copy)]
-pub(crate) enum Opening {
-    Open(u8, u8),
-    Shut(Fault),
-}
-
-// What stands after the fields: so many extension fields, or the fault.
-#[derive(Clone, Copy)]
-pub(crate) enum Rest {
-    Fields(usize),
-    Wrong(Fault),
+// Whether the bit of that weight is set.
+fn bit(flags: u8, weight: u8) -> bool
+    requires { 0 < weight }
+    ensures { result ≡ bit flags weight }
+{
+    flags / weight % 2 == 1
 }
 
 // Whether a field that the confirmation needs is absent.
 pub(crate) fn lacking(confirmation: u8, identifier: bool, reference: bool, sender: bool) -> bool
     ensures { result ≡ lacks confirmation identifier reference sender }
 {
-    if confirmation == 1 {
-        return !identifier;
+    match confirmation {
+        0 => false,
+        1 => !identifier,
+        _ => !(reference && sender),
     }
-    if confirmation < 2 {
-        return false;
-    }
-    if reference {
-        return !sender;
-    }
-    true
 }
 
 // A field of n octets.
@@ -48,15 +35,15 @@ fn fixed(frame: &[u8], present: bool, n: usize, at: usize) -> Step
     ensures { result ≡ fixed_at frame.now present n at }
 {
     if !present {
-        return Step::Got(Field::Absent, at);
+        return Ok((None, at));
     }
     if frame.len() < at {
-        return Step::Bad(Fault::Incomplete);
+        return Err(Fault::Incomplete);
     }
     if frame.len() - at < n {
-        return Step::Bad(Fault::Incomplete);
+        return Err(Fault::Incomplete);
     }
-    Step::Got(Field::At { start: at, len: n }, at + n)
+    Ok((Some(Place { start: at, len: n }), at + n))
 }
 
 // The sender: a length octet 1..32 and its octets.
@@ -64,17 +51,17 @@ fn sender(frame: &[u8], present: bool, at: usize) -> Step
     ensures { result ≡ sender_at frame.now present at }
 {
     if !present {
-        return Step::Got(Field::Absent, at);
+        return Ok((None, at));
     }
     if frame.len() <= at {
-        return Step::Bad(Fault::Incomplete);
+        return Err(Fault::Incomplete);
     }
-    let n = wide(frame[at]);
+    let n = usize::from(frame[at]);
     if n == 0 {
-        return Step::Bad(Fault::BadLength);
+        return Err(Fault::BadLength);
     }
     if 32 < n {
-        return Step::Bad(Fault::BadLength);
+        return Err(Fault::BadLength);
     }
     fixed(frame, true, n, at + 1)
 }
@@ -84,17 +71,17 @@ fn data(frame: &[u8], present: bool, at: usize) -> Step
     ensures { result ≡ data_at frame.now present at }
 {
     if !present {
-        return Step::Got(Field::Absent, at);
+        return Ok((None, at));
     }
     if frame.len() < at {
-        return Step::Bad(Fault::Incomplete);
+        return Err(Fault::Incomplete);
     }
     if frame.len() - at < 2 {
-        return Step::Bad(Fault::Incomplete);
+        return Err(Fault::Incomplete);
     }
-    let n = wide(frame[at]) * 256 + wide(frame[at + 1]);
+    let n = usize::from(u16::from_be_bytes([frame[at], frame[at + 1]]));
     if 512 < n {
-        return Step::Bad(Fault::BadLength);
+        return Err(Fault::BadLength);
     }
     fixed(frame, true, n, at + 2)
 }
@@ -104,149 +91,109 @@ fn extension(frame: &[u8], at: usize) -> Step
     ensures { result ≡ extension_at frame.now at }
 {
     if frame.len() <= at {
-        return Step::Bad(Fault::Incomplete);
+        return Err(Fault::Incomplete);
     }
     if frame[at] == 0 {
-        return Step::Bad(Fault::BadOctet);
+        return Err(Fault::BadOctet);
     }
     if frame.len() - at < 2 {
-        return Step::Bad(Fault::Incomplete);
+        return Err(Fault::Incomplete);
     }
-    fixed(frame, true, wide(frame[at + 1]), at + 2)
+    fixed(frame, true, usize::from(frame[at + 1]), at + 2)
 }
 
-// Extension fields from `start` to the end.
-fn extensions(frame: &[u8], start: usize) -> Rest
+// How many extension fields there are from `start` to the end.
+fn extensions(frame: &[u8], start: usize) -> Result<usize, Fault>
     ensures { result ≡ extensions_from (length frame.now) frame.now start 0 }
 {
     let mut at = start;
     let mut n: usize = 0;
+    // No `for`: how far a turn goes is what the frame says there.
     while at < frame.len() {
-        let step = extension(frame, at);
-        let Step::Got(_, next) = step else {
-            return Rest::Wrong(fault_of(step));
-        };
+        let (_, next) = extension(frame, at)?;
         at = next;
         n += 1;
     }
-    Rest::Fields(n)
+    Ok(n)
 }
 
-// What follows the fields.
-fn ending(frame: &[u8], follow: bool, at: usize) -> Rest
+// What follows the fields: so many extension fields.
+fn ending(frame: &[u8], follow: bool, at: usize) -> Result<usize, Fault>
     ensures { result ≡ rest_at frame.now follow at }
 {
     if follow {
         if frame.len() <= at {
-            return Rest::Wrong(Fault::Incomplete);
+            return Err(Fault::Incomplete);
         }
         return extensions(frame, at);
     }
     if frame.len() <= at {
-        return Rest::Fields(0);
+        return Ok(0);
     }
-    Rest::Wrong(Fault::LeftOver)
-}
-
-// The fault of an answer that is one, to be handed up.
-fn fault_of(step: Step) -> Fault
-    ensures { result ≡ fault_of step }
-{
-    match step {
-        Step::Bad(f) => f,
-        Step::Got(_, _) => Fault::Incomplete,
-    }
-}
-
-pub(crate) fn shut_of(opening: Opening) -> Fault
-    ensures { result ≡ shut_of opening }
-{
-    match opening {
-        Opening::Shut(f) => f,
-        Opening::Open(_, _) => Fault::Incomplete,
-    }
-}
-
-fn wrong_of(rest: Rest) -> Fault
-    ensures { result ≡ wrong_of rest }
-{
-    match rest {
-        Rest::Wrong(f) => f,
-        Rest::Fields(_) => Fault::Incomplete,
-    }
+    Err(Fault::LeftOver)
 }
 
 // The first two octets.
-pub(crate) fn open(frame: &[u8]) -> Opening
+pub(crate) fn open(frame: &[u8]) -> Result<(u8, u8), Fault>
     ensures { result ≡ opened frame.now }
 {
-    if 1024 < frame.len() {
-        return Opening::Shut(Fault::TooLong);
+    if LONGEST < frame.len() {
+        return Err(Fault::TooLong);
     }
     if frame.len() < 1 {
-        return Opening::Shut(Fault::Incomplete);
+        return Err(Fault::Incomplete);
     }
     let flags = frame[0];
-    if flags / 2 % 2 == 1 {
-        return Opening::Shut(Fault::BadOctet);
+    if bit(flags, 2) {
+        return Err(Fault::BadOctet);
     }
     if frame.len() < 2 {
-        return Opening::Shut(Fault::Incomplete);
+        return Err(Fault::Incomplete);
     }
     let confirmation = frame[1];
     if 4 < confirmation {
-        return Opening::Shut(Fault::BadOctet);
+        return Err(Fault::BadOctet);
     }
-    if lacking(
-        confirmation,
-        flags / 32 % 2 == 1,
-        flags / 16 % 2 == 1,
-        flags / 8 % 2 == 1,
-    ) {
-        return Opening::Shut(Fault::Lacking);
+    if lacking(confirmation, bit(flags, 32), bit(flags, 16), bit(flags, 8)) {
+        return Err(Fault::Lacking);
     }
-    Opening::Open(flags, confirmation)
+    Ok((flags, confirmation))
 }
 
-// The fields, from octet 2 on.
-pub(crate) fn fields(frame: &[u8], flags: u8, confirmation: u8) -> Reading
+// The fields, from octet 2 on. (Each answer is taken apart by `let else`, not by `?`: a rule of the project for this place.)
+pub(crate) fn fields(frame: &[u8], flags: u8, confirmation: u8) -> Result<Whole, Fault>
     ensures { result ≡ fields_of frame.now flags confirmation }
 {
-    let step = fixed(frame, flags / 64 % 2 == 1, 1, 2);
-    let Step::Got(message_type, at1) = step else {
-        return Reading::Faulty(fault_of(step));
+    let step = fixed(frame, bit(flags, 64), 1, 2);
+    let Ok((message_type, at1)) = step else {
+        return Err(step.unwrap_err());
     };
-    let step = fixed(frame, flags / 32 % 2 == 1, 2, at1);
-    let Step::Got(identifier, at2) = step else {
-        return Reading::Faulty(fault_of(step));
+    let step = fixed(frame, bit(flags, 32), 2, at1);
+    let Ok((identifier, at2)) = step else {
+        return Err(step.unwrap_err());
     };
-    let step = fixed(frame, flags / 16 % 2 == 1, 2, at2);
-    let Step::Got(reference, at3) = step else {
-        return Reading::Faulty(fault_of(step));
+    let step = fixed(frame, bit(flags, 16), 2, at2);
+    let Ok((reference, at3)) = step else {
+        return Err(step.unwrap_err());
     };
-    let step = sender(frame, flags / 8 % 2 == 1, at3);
-    let Step::Got(sender, at4) = step else {
-        return Reading::Faulty(fault_of(step));
+    let step = sender(frame, bit(flags, 8), at3);
+    let Ok((sender, at4)) = step else {
+        return Err(step.unwrap_err());
     };
-    let step = data(frame, flags / 4 % 2 == 1, at4);
-    let Step::Got(user_data, end) = step else {
-        return Reading::Faulty(fault_of(step));
+    let step = data(frame, bit(flags, 4), at4);
+    let Ok((user_data, end)) = step else {
+        return Err(step.unwrap_err());
     };
-    let rest = ending(frame, flags / 128 % 2 == 1, end);
-    let Rest::Fields(extensions) = rest else {
-        return Reading::Faulty(wrong_of(rest));
+    let extensions = ending(frame, bit(flags, 128), end)?;
+    let header = Header {
+        multi_shot: flags % 2 == 1,
+        confirmation,
+        message_type,
+        identifier,
+        reference,
+        sender,
+        user_data,
+        end,
     };
-    Reading::Whole {
-        header: Header {
-            multi_shot: flags % 2 == 1,
-            confirmation,
-            message_type,
-            identifier,
-            reference,
-            sender,
-            user_data,
-            end,
-        },
-        extensions,
-    }
+    Ok(Whole { header, extensions })
 }

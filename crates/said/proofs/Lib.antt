@@ -1,3 +1,2 @@
 pub mod PenLaws
-pub mod SmallLaws
 pub mod OneResult

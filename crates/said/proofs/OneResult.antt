@@ -1,11 +1,9 @@
 -- Each public contract leaves one result. Closed by the equalities that it gives; a note's type by cases.
-use mathlib.Core.Path.{◌≡◌, refl, sym, ◌∙◌}
+use Rattle.std.specs.Prelude.{Option}
+use mathlib.Core.Path.{◌≡◌, sym, ◌∙◌}
 use Prim.Native.Nat.{ℕ}
 use mathlib.Core.Bool.{Bool}
 use Rattle.octets.specs.Contract.{Leaves}
-use Rattle.frame.specs.declared.OneOctet.{OneOctet}
-use Rattle.frame.specs.declared.OneOctet.TheVariants.{NoOctet, Octet}
-use Rattle.frame.specs.Decoding.{octet_in}
 use Rattle.said.specs.declared.Note.{Note}
 use Rattle.said.proofs.before_name.Reads as before-name
 use Rattle.said.proofs.result_of.Reads as result_of
@@ -20,21 +18,14 @@ one_before_name κs a x y e f p q = p.0 ∙ sym q.0
 pub one_result_of : Leaves result_of.Post (λ κs r e. r)
 one_result_of κs a x y e f p q = p ∙ sym q
 
--- a type is known by what it says
-told : (s t : OneOctet) → octet_in s ≡ octet_in t → s ≡ t
-told NoOctet NoOctet e = refl
-told NoOctet (Octet n) e = cc
-told (Octet m) NoOctet e = cc
-told (Octet m) (Octet n) e = cc
-
-made : {m m' : Bool} {c c' r r' : ℕ} {t t' : OneOctet} → m ≡ m' → c ≡ c' → t ≡ t' → r ≡ r' →
+made : {m m' : Bool} {c c' r r' : ℕ} {t t' : Option ℕ} → m ≡ m' → c ≡ c' → t ≡ t' → r ≡ r' →
     ◌≡◌ {A = Note} (record { multi_shot = m; confirmation = c; message_type = t; reference = r })
     (record { multi_shot = m'; confirmation = c'; message_type = t'; reference = r' })
 made e f g h = rw (e, f, g, h)
 
 pub one_ack_of : Leaves ack-of.Post (λ κs r e. r)
 one_ack_of κs a x y e f p q =
-    made (p.shot ∙ sym q.shot) (p.confirmation ∙ sym q.confirmation) (told x.message_type y.message_type (p.type ∙ sym q.type)) (p.reference ∙ sym q.reference)
+    made (p.shot ∙ sym q.shot) (p.confirmation ∙ sym q.confirmation) (p.type ∙ sym q.type) (p.reference ∙ sym q.reference)
 
 pub one_settle : Leaves settle.Post (λ κs r e. r)
 one_settle κs a x y e f p q = p ∙ sym q

@@ -1,4 +1,5 @@
 -- Lines as the code lays them: a head with its length in front, then a body. Closed by `then` of Puts, and the length computed.
+use Rattle.std.specs.Prelude.{None, Option, Some}
 use Prim.Native.Nat.{ℕ, zero, suc, ◌+◌, ◌<◌, ◌≤◌, ◌/◌, ◌%◌}
 use mathlib.Core.Path.{◌≡◌, refl, ap, sym, ◌∙◌}
 use mathlib.Core.Bool.{Bool}
@@ -12,10 +13,7 @@ use Rattle.octets.proofs.Puts.{then, put_as}
 use Rattle.octets.proofs.Puts as Puts
 use Rattle.frame.specs.Message.{present}
 use Rattle.frame.specs.Encoding.{weight, type_octets, first_octet}
-use Rattle.frame.specs.Decoding.{octet_in}
 use Rattle.frame.specs.Stripping.{bare_to}
-use Rattle.frame.specs.declared.OneOctet.{OneOctet}
-use Rattle.frame.specs.declared.OneOctet.TheVariants.{NoOctet, Octet}
 use Rattle.frame.proofs.WriterLaws.{encode_is}
 use Rattle.frame.proofs.BareLaws.{bare-length}
 use Rattle.book.specs.View.{frame_octets, frame_message, kind_number, kind_for}
@@ -82,32 +80,32 @@ conf_back (suc (suc (suc (suc zero)))) h l = refl
 conf_back (suc (suc (suc (suc (suc c))))) h l = absurd (omega arith)
 
 -- its octets, field by field
-note_at : (t : OneOctet) (m : Bool) (c r : ℕ) (name : List ℕ) → 2 ≤ c → c ≤ 4 →
+note_at : (t : Option ℕ) (m : Bool) (c r : ℕ) (name : List ℕ) → 2 ≤ c → c ≤ 4 →
     note_octets (record { multi_shot = m; confirmation = c; message_type = t; reference = r }) name
-    ≡ ((weight (present (octet_in t)) 64 + 24 + weight m 1) ∷ c ∷ []) ++ type_octets (octet_in t) ++ (r / 256 ∷ r % 256 ∷ length name ∷ name)
+    ≡ ((weight (present t) 64 + 24 + weight m 1) ∷ c ∷ []) ++ type_octets t ++ (r / 256 ∷ r % 256 ∷ length name ∷ name)
 unfolding note_octets frame_octets frame_message first_octet
-note_at NoOctet m c r name h l =
-    encode_is (frame_message (note_frame (record { multi_shot = m; confirmation = c; message_type = NoOctet; reference = r }) name))
+note_at None m c r name h l =
+    encode_is (frame_message (note_frame (record { multi_shot = m; confirmation = c; message_type = None; reference = r }) name))
     ∙ rw (conf_back c h l, append-nil name)
-note_at (Octet t) m c r name h l =
-    encode_is (frame_message (note_frame (record { multi_shot = m; confirmation = c; message_type = Octet t; reference = r }) name))
+note_at (Some t) m c r name h l =
+    encode_is (frame_message (note_frame (record { multi_shot = m; confirmation = c; message_type = Some t; reference = r }) name))
     ∙ rw (conf_back c h l, append-nil name)
 
 pub note_is : (n : Note) (name : List ℕ) → 2 ≤ n.confirmation → n.confirmation ≤ 4 → note_octets n name
-    ≡ ((weight (present (octet_in n.message_type)) 64 + 24 + weight n.multi_shot 1) ∷ n.confirmation ∷ [])
-    ++ type_octets (octet_in n.message_type) ++ (n.reference / 256 ∷ n.reference % 256 ∷ length name ∷ name)
+    ≡ ((weight (present n.message_type) 64 + 24 + weight n.multi_shot 1) ∷ n.confirmation ∷ [])
+    ++ type_octets n.message_type ++ (n.reference / 256 ∷ n.reference % 256 ∷ length name ∷ name)
 note_is n name h l = note_at n.message_type n.multi_shot n.confirmation n.reference name h l
 
 module _ (n : Note) (name : List ℕ) (letters shot : ℕ) (h : 2 ≤ n.confirmation) (l : n.confirmation ≤ 4) (e : length name ≡ letters) (m : letters ≤ 32)
     (f : shot ≡ weight n.multi_shot 1) {b b1 a : List ℕ} {i j r : ℕ} where
-  pub note_plain : n.message_type ≡ NoOctet → n.reference < 65536 →
+  pub note_plain : n.message_type ≡ None → n.reference < 65536 →
       Put b i ((24 + shot) ∷ n.confirmation ∷ n.reference / 256 ∷ n.reference % 256 ∷ letters % 256 ∷ []) b1 j → Put b1 j name a r →
       Put b i (note_octets n name) a r
   note_plain z k p q =
       let g : letters % 256 ≡ length name = omega arith in
       put_as (rw (g, f) (sym (note_is n name h l ∙ rw z))) (then p q)
 
-  pub note_typed : (t : ℕ) → n.message_type ≡ Octet t → n.reference < 65536 →
+  pub note_typed : (t : ℕ) → n.message_type ≡ Some t → n.reference < 65536 →
       Put b i ((88 + shot) ∷ n.confirmation ∷ t ∷ n.reference / 256 ∷ n.reference % 256 ∷ letters % 256 ∷ []) b1 j → Put b1 j name a r →
       Put b i (note_octets n name) a r
   note_typed t z k p q =
@@ -115,13 +113,13 @@ module _ (n : Note) (name : List ℕ) (letters shot : ℕ) (h : 2 ≤ n.confirma
       put_as (rw (g, f) (sym (note_is n name h l ∙ rw z))) (then p q)
 
 pub note_length : (n : Note) (name : List ℕ) → 2 ≤ n.confirmation → n.confirmation ≤ 4 →
-    length (note_octets n name) ≡ 5 + length (type_octets (octet_in n.message_type)) + length name
+    length (note_octets n name) ≡ 5 + length (type_octets n.message_type) + length name
 note_length n name h l =
     rw (note_is n name h l)
-    (omega (arith, length-append (type_octets (octet_in n.message_type)) (n.reference / 256 ∷ n.reference % 256 ∷ length name ∷ name)))
+    (omega (arith, length-append (type_octets n.message_type) (n.reference / 256 ∷ n.reference % 256 ∷ length name ∷ name)))
 
 pub line_note : (head : List ℕ) (n : Note) (name : List ℕ) (size : ℕ) (p : Pen) {b b1 a : List ℕ} {j r : ℕ} → 2 ≤ n.confirmation → n.confirmation ≤ 4 →
-    size ≡ 5 + length (type_octets (octet_in n.message_type)) + length name →
+    size ≡ 5 + length (type_octets n.message_type) + length name →
     Put b p.at ((length head + size) / 256 ∷ (length head + size) % 256 ∷ head) b1 j → Put b1 j (note_octets n name) a r →
     Laid b p ((head ++ note_octets n name) ∷ []) a (record { at = r; lines = p.lines + 1 })
 line_note head n name size p h l e x y = line_made head (note_octets n name) size 0 p (note_length n name h l ∙ sym e) x y
@@ -130,10 +128,3 @@ line_note head n name size p h l e x y = line_made head (note_octets n name) siz
 
 pub answers_more : (f : ℕ → List ℕ) (ids : List ℕ) (i : ℕ) → i < length ids → map f (take i ids) ++ (f (get_or ids i 0) ∷ []) ≡ map f (take (i + 1) ids)
 answers_more f ids i h = rw (add-one, take-suc ids i 0 h, map-append f)
-
--- how many octets a note has before its name
-pub size_none : (t : OneOctet) → t ≡ NoOctet → 5 ≡ 5 + length (type_octets (octet_in t))
-size_none t e = rw e
-
-pub size_some : (t : OneOctet) (x : ℕ) → t ≡ Octet x → 6 ≡ 5 + length (type_octets (octet_in t))
-size_some t x e = rw e

@@ -5,12 +5,11 @@ ghost use Rattle.std.specs.Prelude.{◌≡◌, ◌+◌, ◌≤◌, eqb, length, 
 ghost use Rattle.std.proofs.lemmas.List.Edits.{sets};
 ghost use Rattle.octets.specs.Choice.{pick};
 ghost use Rattle.frame.specs.Encoding.{type_octets};
-ghost use Rattle.frame.specs.Decoding.{octet_in};
 ghost use Rattle.book.specs.Book.{settled};
 ghost use Rattle.said.specs.Notes.{AckOf};
 
 use book::Terms;
-use frame::{Header, OneOctet};
+use frame::Header;
 
 // Where the next line goes, and how many lines stand before it.
 #[derive(Clone, Copy, PartialEq, Eq, Default)]
@@ -21,11 +20,11 @@ pub struct Pen {
 
 // What a confirmation that the unit makes itself says beside the unit's name. Here and in Say a confirmation and a result are the octets that the line
 // carries: an enum between would be turned into them at once, and no line would be plainer.
-#[derive(Clone, Copy)]
+#[derive(Clone, Copy, PartialEq, Eq)]
 pub struct Note {
     pub multi_shot: bool,
     pub confirmation: u8,
-    pub message_type: OneOctet,
+    pub message_type: Option<u8>,
     pub reference: u16,
 }
 
@@ -38,13 +37,10 @@ pub struct Say {
 }
 
 // How many octets a note has before its name.
-pub fn before_name(message_type: OneOctet) -> usize
-    ensures { (result ≡ 5 + length (type_octets (octet_in message_type))) × (result ≤ 6) }
+pub fn before_name(message_type: Option<u8>) -> usize
+    ensures { (result ≡ 5 + length (type_octets message_type)) × (result ≤ 6) }
 {
-    let OneOctet::Octet(_) = message_type else {
-        return 5;
-    };
-    6
+    5 + usize::from(message_type.is_some())
 }
 
 // 0 for confirmedOk, else 1.
@@ -55,18 +51,15 @@ pub fn result_of(confirmation: u8) -> u8
 }
 
 // The acknowledgement of a confirmed message, as a note.
+#[tactic(auto, unfolding(frame::specs::Decoding::message_at))]
 pub fn ack_of(frame: &[u8], h: Header) -> Note
     ensures { AckOf frame.now h result }
 {
-    let t = h.message_type;
-    let i = h.identifier;
-    let message_type = frame::one_octet(frame, t);
-    let reference = state::needed_value(frame::two_octets(frame, i));
     Note {
         multi_shot: h.multi_shot,
         confirmation: 2,
-        message_type: message_type,
-        reference: reference,
+        message_type: frame::one_octet(frame, h.message_type),
+        reference: frame::two_octets(frame, h.identifier).unwrap_or(0),
     }
 }
 

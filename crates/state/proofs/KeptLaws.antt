@@ -1,5 +1,5 @@
 -- The kept frame: one law for each way out of its test.
-use Rattle.std.specs.Prelude.{Option}
+use Rattle.std.specs.Prelude.{Option, Result, Ok, Err}
 use Prim.Native.Nat.{ℕ, zero, suc}
 use mathlib.Core.Path.{◌≡◌, refl, ap, sym, ◌∙◌}
 use mathlib.Core.Bool.{Bool, true, false}
@@ -10,8 +10,7 @@ use lib.Dec.{eqb}
 use lib.ListN.{get_or}
 use Rattle.frame.specs.declared.Header.{Header}
 use Rattle.frame.specs.declared.Fault.{Fault}
-use Rattle.frame.specs.declared.Reading.{Reading as Answer}
-use Rattle.frame.specs.declared.Reading.TheVariants.{Whole, Faulty}
+use Rattle.frame.specs.declared.Whole.{Whole}
 use Rattle.frame.specs.Reading.{reading_of}
 use Rattle.frame.specs.Decoding.{message_at, held_at, two_octets}
 use Rattle.octets.specs.Choice.{both}
@@ -48,9 +47,9 @@ module _ (u : Value) (s : List ℕ) (h : Header) (n : ℕ) where
       none true = refl
       none false = refl
 
-module _ (u : Value) (s : List ℕ) {x : Answer} (q : x ≡ reading_of s) where
-  pub reads_bad : {f : Fault} → x ≡ Faulty f → false ≡ kept_reads u (reading_in s)
+module _ (u : Value) (s : List ℕ) {x : Result Whole Fault} (q : x ≡ reading_of s) where
+  pub reads_bad : {f : Fault} → x ≡ Err f → false ≡ kept_reads u (reading_in s)
   reads_bad e = sym (ap (kept_reads u) (faulty_reading s q e))
 
-  pub reads_good : {h : Header} {n : ℕ} {a : Bool} → x ≡ Whole h n → a ≡ kept_reads u (good (frame_at s h) n) → a ≡ kept_reads u (reading_in s)
-  reads_good {h} {n} e g = g ∙ sym (ap (kept_reads u) (whole_reading s h n q e))
+  pub reads_good : {v : Whole} {a : Bool} → x ≡ Ok v → a ≡ kept_reads u (good (frame_at s v.header) v.extensions) → a ≡ kept_reads u (reading_in s)
+  reads_good {v} e g = g ∙ sym (ap (kept_reads u) (whole_reading s v q e))

@@ -2,7 +2,6 @@
 -- drift from the source.
 use mathlib.Core.Path.{sym, ◌∙◌}
 use Rattle.octets.specs.Contract.{Leaves}
-use Rattle.state.proofs.needed_value.Reads as needed-value
 use Rattle.state.proofs.events.event_of.Reads as event-of
 use Rattle.state.proofs.events.frame_from.Reads as frame-from
 use Rattle.state.proofs.sound.both.Reads as both
@@ -14,9 +13,6 @@ use Rattle.state.proofs.turns.taken.Reads as taken
 use Rattle.state.proofs.waiting.find.Reads as find
 use Rattle.state.proofs.waiting.without.Reads as without
 use Rattle.state.proofs.waiting.with_one.Reads as with-one
-
-pub one_needed_value : Leaves needed-value.Post (λ κs r e. r)
-one_needed_value κs a x y e f p q = p ∙ sym q
 
 pub one_event_of : Leaves event-of.Post (λ κs r e. r)
 one_event_of κs a x y e f p q = p ∙ sym q

@@ -7,7 +7,7 @@ ghost use Rattle.book.specs.Book.{good, waits};
 ghost use Rattle.book.specs.View.{reading_in, frame_at};
 ghost use Rattle.book.specs.Ready.{Reads, Ready};
 
-use frame::{Header, Reading};
+use frame::{Header, Whole};
 use image::seen::Seen;
 
 pub fn both(a: bool, b: bool) -> bool
@@ -116,7 +116,7 @@ fn kept_says<S: Seen>(u: &S, frame: &[u8], h: Header, n: usize) -> bool
         0 => alone && u.count() == 0,
         1 => alone
             && u.count() == 1
-            && u.id(0) == crate::needed_value(frame::two_octets(frame, h.identifier)),
+            && u.id(0) == frame::two_octets(frame, h.identifier).unwrap_or(0),
         _ => false,
     }
 }
@@ -125,8 +125,8 @@ fn kept_reads<S: Seen>(u: &S, frame: &[u8]) -> bool
     ensures { result ≡ kept_reads (S.unit u.now) (reading_in frame.now) }
 {
     match frame::read(frame) {
-        Reading::Faulty(_) => false,
-        Reading::Whole { header, extensions } => kept_says(u, frame, header, extensions),
+        Err(_) => false,
+        Ok(Whole { header, extensions }) => kept_says(u, frame, header, extensions),
     }
 }
 

@@ -1,6 +1,7 @@
 -- The line at the front of an input, by its three answers, and the octets that were put: laws of `line_in`, for those who read lines. Closed by the tests
 -- of a line.
-use Rattle.std.specs.Prelude.{None, Option, Some}
+use Rattle.std.specs.Prelude.{None, Option, Some, IfSome}
+use Rattle.std.specs.Option.{option_map}
 use Prim.Native.Nat.{ℕ, ◌+◌, ◌*◌, ◌<◌, ◌≤◌}
 use mathlib.Core.Path.{◌≡◌, refl, ap, sym, ◌∙◌}
 use mathlib.Core.Bool.{Bool, true, false}
@@ -60,3 +61,35 @@ found_octets i l (refused h f) r n q p e₀ e w g =
     let y : None ≡ Some n = ap (λ (x : Line). x.octets) z ∙ p in
     let x : ◌≡◌ {A = ℕ} 0 1 = cc in absurd (omega arith)
 found_octets i l (unended h) r n q p e₀ e w g = let z : ◌≡◌ {A = ℕ} 0 1 = cc in absurd (omega arith)
+
+-- ---- the line as the code reads it: where it ends, and the octets that it stands for
+
+pub record Read (i : List ℕ) (r : Line) (e : List ℕ) : Type 0 where
+  pub ended : to_feed i < length i
+  pub next : r.next ≡ to_feed i + 1
+  pub event : option_map (λ k. take k e) r.octets ≡ event_in (take (to_feed i) i)
+  pub few : IfSome r.octets (λ k. k ≤ 2048)
+
+reads_line : (i : List ℕ) (l : Option Line) → Found i l → (r : Line) → l ≡ Some r → (e : List ℕ) → ((n : ℕ) → r.octets ≡ Some n → take n e ≡ leading i) → Read i r e
+reads_line i l (octets o h f) r q e g =
+    let z : record { octets = Some (length o); next = to_feed i + 1 } ≡ r = cc in
+    let k = event_is (take (to_feed i) i) o f in
+    let t : take (length o) e ≡ o = g (length o) (ap (λ (x : Line). x.octets) (sym z)) ∙ sym (k.0 ∙ leading_cut i) in
+    record { ended = h; next = ap (λ (x : Line). x.next) (sym z); event = rw (← z, f) (ap Some t); few = rw (← z) k.1 }
+reads_line i l (refused h f) r q e g =
+    let z : record { octets = None; next = to_feed i + 1 } ≡ r = cc in
+    record { ended = h; next = ap (λ (x : Line). x.next) (sym z); event = rw (← z) (sym f); few = rw (← z) tt }
+reads_line i l (unended h) r q e g = let z : ◌≡◌ {A = ℕ} 0 1 = cc in absurd (omega arith)
+
+pub line_read : (i : List ℕ) (l : Option Line) (r : Line) (e₀ e : List ℕ) → l ≡ line_in i → l ≡ Some r → e ≡ sets e₀ 0 (leading i) → length e₀ ≡ 2048 → Read i r e
+line_read i l r e₀ e p q g w =
+    let k = sym p ∙ q in
+    reads_line i (line_in i) (found i) r k e (λ n f. found_octets i (line_in i) (found i) r n k f e₀ e w g)
+
+open_of : (i : List ℕ) (l : Option Line) → Found i l → l ≡ None → length i ≤ to_feed i
+open_of i l (octets o h f) q = let z : ◌≡◌ {A = ℕ} 0 1 = cc in absurd (omega arith)
+open_of i l (refused h f) q = let z : ◌≡◌ {A = ℕ} 0 1 = cc in absurd (omega arith)
+open_of i l (unended h) q = h
+
+pub line_unended : (i : List ℕ) (l : Option Line) → l ≡ line_in i → l ≡ None → length i ≤ to_feed i
+line_unended i l p q = open_of i (line_in i) (found i) (sym p ∙ q)

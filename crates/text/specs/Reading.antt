@@ -1,5 +1,6 @@
 -- A line of the listing's input. 01, "Events, lines and the listing".
 use Rattle.std.specs.Prelude.{ℕ, suc, ◌+◌, ◌*◌, List, [], ◌∷◌, eqb, ltb, leb, length, take, drop, None, Option, Some}
+use Rattle.std.specs.Borrow.{Bor}
 use Rattle.octets.specs.Choice.{pick, both}
 use Rattle.text.specs.Digits.{value_of, octet_of}
 use Rattle.text.specs.declared.Line.{Line}
@@ -36,3 +37,8 @@ said (Some octets) next = record { octets = Some (length octets); next = next }
 -- the line at the front of the input; none where it has no line feed yet
 unfoldable pub line_in : List ℕ → Option Line
 line_in s = pick (ltb (to_feed s) (length s)) (Some (said (event_in (take (to_feed s) s)) (to_feed s + 1))) None
+
+-- what lent octets hold, where there are any
+abbrev pub held_in : Option (Bor (List ℕ)) → Option (List ℕ)
+held_in None = None
+held_in (Some e) = Some e.now

@@ -2,11 +2,12 @@
 // other. Rules: 01, "Events, lines and the listing".
 #![tactic(auto)]
 
-ghost use Rattle.std.specs.Prelude.{◌≡◌, ◌≤◌, ◌<◌, ◌*◌, ◌+◌, ◌/◌, ◌%◌, IfSome, None, Some, length, min, cond, nat_lt, ◌==◌, ◌&&◌};
+ghost use Rattle.std.specs.Prelude.{◌≡◌, ◌≤◌, ◌<◌, ◌*◌, ◌+◌, ◌/◌, ◌%◌, IfSome, None, Some, length, min, cond, nat_lt, take, ◌==◌, ◌&&◌};
+ghost use Rattle.std.specs.Option.{option_map};
 ghost use Rattle.std.specs.List.{position};
 ghost use Rattle.std.proofs.lemmas.List.Edits.{sets};
 ghost use Rattle.text.specs.Digits.{value_of, octet_of};
-ghost use Rattle.text.specs.Reading.{leading, feed_from, line_in};
+ghost use Rattle.text.specs.Reading.{leading, feed_from, line_in, held_in};
 ghost use Rattle.text.specs.Printing.{digit_of, digits_of, fits, printed_in};
 
 pub mod hearing;
@@ -93,6 +94,17 @@ pub fn line_in(s: &[u8], event: &mut [u8; 2048]) -> Option<Line>
         octets: event_len(n, end),
         next: end + 1,
     })
+}
+
+// The octets of a line, in the array that it was read with; none of a line that is refused.
+pub fn octets_of(line: Line, event: &[u8; 2048]) -> Option<&[u8]>
+    requires { IfSome line.octets (λ k. k ≤ 2048) }
+    ensures { held_in result ≡ option_map (λ k. take k event.now) line.octets }
+{
+    match line.octets {
+        Some(n) => Some(&event[..n]),
+        None => None,
+    }
 }
 
 // The digit of a value.

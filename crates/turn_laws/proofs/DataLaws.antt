@@ -1,5 +1,5 @@
 -- 12 D-DATA indication: one law for each way out. Closed by cases on the state and on where the reference stands.
-use Rattle.std.specs.Prelude.{None, Option, Some, Ok}
+use Rattle.std.specs.Prelude.{None, Option, Some, Result, Ok, Err}
 use Prim.Native.Nat.{ℕ, zero, suc, ◌+◌, ◌<◌, ◌≤◌, ◌/◌, ◌%◌}
 use mathlib.Core.Path.{◌≡◌, refl, ap, sym, ◌∙◌}
 use mathlib.Core.Bool.{Bool, true, false}
@@ -12,13 +12,11 @@ use lib.Seq.{length-take-le}
 use Rattle.octets.specs.Choice.{pick}
 use Rattle.frame.specs.declared.Header.{Header}
 use Rattle.frame.specs.declared.Fault.{Fault}
-use Rattle.frame.specs.declared.TwoOctets.{TwoOctets}
-use Rattle.frame.specs.declared.Reading.{Reading as Answer}
-use Rattle.frame.specs.declared.Reading.TheVariants.{Whole, Faulty}
+use Rattle.frame.specs.declared.Whole.{Whole}
 use Rattle.frame.specs.Message.{Message}
 use Rattle.frame.specs.Faults.{fault_number}
 use Rattle.frame.specs.Reading.{reading_of}
-use Rattle.frame.specs.Decoding.{message_at, octet_in, number_in, two_octets, held_at}
+use Rattle.frame.specs.Decoding.{message_at, two_octets, held_at}
 use Rattle.frame.specs.Stripping.{bare_to}
 use Rattle.book.specs.declared.Unit.{Unit as Value}
 use Rattle.book.specs.declared.Turn.{Turn}
@@ -57,7 +55,7 @@ seen_some n z h l = laid_as (seen_line n z h) l
 
 -- ---- a message that was heard, as the note that acknowledges it
 
-ack_fields : (a : Note) (m : Message) (name : List ℕ) → a.multi_shot ≡ m.multi_shot → octet_in a.message_type ≡ m.message_type →
+ack_fields : (a : Note) (m : Message) (name : List ℕ) → a.multi_shot ≡ m.multi_shot → a.message_type ≡ m.message_type →
     a.reference ≡ needed m.message_identifier → a.confirmation ≡ 2 →
     note_frame a name ≡ note ok (needed m.message_identifier) None name (record { maintained = m.multi_shot; type = m.message_type; user_data = None })
 ack_fields a m name es et er ec = rw (es, et, er, ec)
@@ -230,8 +228,8 @@ module _ {u : Value} (k : Ready u) {f : List ℕ} {h : Header} {n : ℕ} (w : Re
       ∙ seen_first n (give u.terms (sure_in M) ∷ send (dat (good (ack S (needed M.message_identifier) (body_in M)) 0)) ∷ []))
       (and_then x (and_then y l)) q)
 
-  module _ (t : takes u.state 6 ≡ true) (c : 2 ≤ h.confirmation) (i : TwoOctets) {id : ℕ} {g : Option ℕ} (ei : number_in i ≡ two_octets (held_at f h.reference))
-      (er : id ≡ needed (number_in i)) (eg : g ≡ place_of id 0 (ids_in u)) where
+  module _ (t : takes u.state 6 ≡ true) (c : 2 ≤ h.confirmation) (i : Option ℕ) {id : ℕ} {g : Option ℕ} (ei : i ≡ two_octets (held_at f h.reference))
+      (er : id ≡ needed i) (eg : g ≡ place_of id 0 (ids_in u)) where
     stands : place_of (needed M.message_reference) 0 (waiting_of T) ≡ g
     unfolding message_at
     stands = sym (eg ∙ rw (er, ei) (ap (place_of (needed (two_octets (held_at f h.reference))) 0) (ids_are S u T k.whole)))
@@ -270,13 +268,13 @@ note_remove {u} {v} k id {j} q z e =
 
 -- ---- from the octets
 
-module _ {u : Value} (f : List ℕ) {before after : List ℕ} {x : Answer} {r : Turn} (q : x ≡ reading_of f) where
-  pub heard_bad : Ready u → takes u.state 6 ≡ true → {y : Fault} {n : ℕ} → x ≡ Faulty y → n ≡ fault_number y
+module _ {u : Value} (f : List ℕ) {before after : List ℕ} {x : Result Whole Fault} {r : Turn} (q : x ≡ reading_of f) where
+  pub heard_bad : Ready u → takes u.state 6 ≡ true → {y : Fault} {n : ℕ} → x ≡ Err y → n ≡ fault_number y
       → Turned u (fall (setup_of u) (maintains (state_of u)) (waiting_of (state_of u)) n) before r after
       → Turned u (on_dat (setup_of u) (reading_in f) (state_of u)) before r after
   heard_bad k t {n = n} e en g =
       turned_as (ap (λ y. on_dat (setup_of u) y (state_of u)) (faulty_reading f q e ∙ ap bad (sym en)) ∙ bad_is (setup_of u) u (state_of u) k.whole t n) g
 
-  pub heard_good : {h : Header} {n : ℕ} → x ≡ Whole h n → Turned u (on_dat (setup_of u) (good (frame_at f h) n) (state_of u)) before r after
+  pub heard_good : {v : Whole} → x ≡ Ok v → Turned u (on_dat (setup_of u) (good (frame_at f v.header) v.extensions) (state_of u)) before r after
       → Turned u (on_dat (setup_of u) (reading_in f) (state_of u)) before r after
-  heard_good {h} {n} e g = turned_as (ap (λ y. on_dat (setup_of u) y (state_of u)) (whole_reading f h n q e)) g
+  heard_good {v} e g = turned_as (ap (λ y. on_dat (setup_of u) y (state_of u)) (whole_reading f v q e)) g

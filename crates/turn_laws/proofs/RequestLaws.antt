@@ -1,5 +1,5 @@
 -- 01 and 02: one law for each way out. Closed by cases on the state, and by the tests on the way.
-use Rattle.std.specs.Prelude.{None, Option, Some, Ok}
+use Rattle.std.specs.Prelude.{None, Option, Some, Result, Ok, Err}
 use Prim.Native.Nat.{ℕ, zero, suc, ◌<◌, ◌≤◌}
 use mathlib.Core.Path.{◌≡◌, refl, ap, sym, ◌∙◌}
 use mathlib.Core.Bool.{Bool, true, false, not}
@@ -12,13 +12,11 @@ use lib.Seq.{length-take-le}
 use Rattle.octets.specs.Choice.{pick, either}
 use Rattle.frame.specs.declared.Header.{Header}
 use Rattle.frame.specs.declared.Fault.{Fault}
-use Rattle.frame.specs.declared.TwoOctets.{TwoOctets}
-use Rattle.frame.specs.declared.Reading.{Reading as Answer}
-use Rattle.frame.specs.declared.Reading.TheVariants.{Whole, Faulty}
+use Rattle.frame.specs.declared.Whole.{Whole}
 use Rattle.frame.specs.Message.{Message}
 use Rattle.frame.specs.Encoding.{weight}
 use Rattle.frame.specs.Reading.{octet, reading_of}
-use Rattle.frame.specs.Decoding.{message_at, number_in, two_octets, held_at}
+use Rattle.frame.specs.Decoding.{message_at, two_octets, held_at}
 use Rattle.frame.specs.Stripping.{bare_to}
 use Rattle.frame.proofs.BareLaws.{bare-length}
 use Rattle.book.specs.declared.Terms.{Terms}
@@ -88,7 +86,7 @@ module _ (f : List ℕ) (h : Header) where
 -- ---- a confirmed identifier waits
 
 module _ (f : List ℕ) (h : Header) (u : Value) where
-  pub join_sure : (i : TwoOctets) {id : ℕ} {v : Value} → h.confirmation ≡ 1 → number_in i ≡ two_octets (held_at f h.identifier) → id ≡ needed (number_in i) → v ≡ appended u id →
+  pub join_sure : (i : Option ℕ) {id : ℕ} {v : Value} → h.confirmation ≡ 1 → i ≡ two_octets (held_at f h.identifier) → id ≡ needed i → v ≡ appended u id →
       v ≡ joined u (ids_of (msg_at f h))
   unfolding ids_of message_at
   join_sure i c ei er ev = ev ∙ ap (appended u) (er ∙ ap needed ei) ∙ sym (ap (λ (m : Msg). joined u (ids_of m)) (msg_sure f h c))
@@ -271,7 +269,7 @@ module _ {u : Value} (k : Ready u) {f : List ℕ} {h : Header} (w : Reads f h 0)
             turned_as (ap (λ o. on_multi o a M T) (bar_same ∙ ap (λ m. bar_confirmed m (ids_in u)) (msg_plain f h c)))
             (went (next_plain S u T k.whole n a M (ap ids_of (msg_plain f h c))) e (line_is (omega arith)) x q)
 
-        module _ (c : h.confirmation ≡ 1) (i : TwoOctets) {id : ℕ} {g : Option ℕ} (ei : number_in i ≡ two_octets (held_at f h.identifier)) (er : id ≡ needed (number_in i))
+        module _ (c : h.confirmation ≡ 1) (i : Option ℕ) {id : ℕ} {g : Option ℕ} (ei : i ≡ two_octets (held_at f h.identifier)) (er : id ≡ needed i)
             (eg : g ≡ place_of id 0 (ids_in u)) where
           id_is : ids_of M ≡ id ∷ []
           unfolding ids_of message_at
@@ -357,37 +355,37 @@ unfolding vet
 vet_yes true k m e = ap (λ (k : ℕ). vet true (good (viewed_as k m) 0)) e ∙ sym (ap (λ (k : ℕ). Some (msg_in (good (viewed_as k m) 0))) e)
 vet_yes false k m e = ap (λ (k : ℕ). vet false (good (viewed_as k m) 0)) e ∙ sym (ap (λ (k : ℕ). Some (msg_in (good (viewed_as k m) 0))) e)
 
-module _ (u : Value) (confirmed : Bool) (a : Terms) (f : List ℕ) {x : Answer} (q : x ≡ reading_of f) where
-  pub ask_faulty : {y : Fault} → x ≡ Faulty y → on_request confirmed a (reading_in f) (state_of u) ≡ refused BadFrame
+module _ (u : Value) (confirmed : Bool) (a : Terms) (f : List ℕ) {x : Result Whole Fault} (q : x ≡ reading_of f) where
+  pub ask_faulty : {y : Fault} → x ≡ Err y → on_request confirmed a (reading_in f) (state_of u) ≡ refused BadFrame
   unfolding on_request on_vetted vet
   ask_faulty e = ap (λ y. on_vetted a (vet confirmed y) (state_of u)) (faulty_reading f q e)
 
-  module _ {h : Header} {n : ℕ} (e : x ≡ Whole h n) where
-    reading_is : on_request confirmed a (reading_in f) (state_of u) ≡ on_vetted a (vet confirmed (good (frame_at f h) n)) (state_of u)
+  module _ {v : Whole} (e : x ≡ Ok v) where
+    reading_is : on_request confirmed a (reading_in f) (state_of u) ≡ on_vetted a (vet confirmed (good (frame_at f v.header) v.extensions)) (state_of u)
     unfolding on_request
-    reading_is = ap (λ y. on_vetted a (vet confirmed y) (state_of u)) (whole_reading f h n q e)
+    reading_is = ap (λ y. on_vetted a (vet confirmed y) (state_of u)) (whole_reading f v q e)
 
-    pub ask_extended : (n ≡ 0 → ⊥) → on_request confirmed a (reading_in f) (state_of u) ≡ refused BadFrame
+    pub ask_extended : (v.extensions ≡ 0 → ⊥) → on_request confirmed a (reading_in f) (state_of u) ≡ refused BadFrame
     unfolding on_vetted
-    ask_extended z = reading_is ∙ ap (λ y. on_vetted a y (state_of u)) (vet_extended confirmed (frame_at f h) n z)
+    ask_extended z = reading_is ∙ ap (λ y. on_vetted a y (state_of u)) (vet_extended confirmed (frame_at f v.header) v.extensions z)
 
-    module _ (z : n ≡ 0) {k : ℕ} (ek : k ≡ weight confirmed 1) where
-      zero_is : on_request confirmed a (reading_in f) (state_of u) ≡ on_vetted a (vet confirmed (good (frame_at f h) 0)) (state_of u)
-      zero_is = reading_is ∙ ap (λ (m : ℕ). on_vetted a (vet confirmed (good (frame_at f h) m)) (state_of u)) z
+    module _ (z : v.extensions ≡ 0) {k : ℕ} (ek : k ≡ weight confirmed 1) where
+      zero_is : on_request confirmed a (reading_in f) (state_of u) ≡ on_vetted a (vet confirmed (good (frame_at f v.header) 0)) (state_of u)
+      zero_is = reading_is ∙ ap (λ (m : ℕ). on_vetted a (vet confirmed (good (frame_at f v.header) m)) (state_of u)) z
 
-      pub ask_other : (h.confirmation ≡ k → ⊥) → on_request confirmed a (reading_in f) (state_of u) ≡ refused BadFrame
+      pub ask_other : (v.header.confirmation ≡ k → ⊥) → on_request confirmed a (reading_in f) (state_of u) ≡ refused BadFrame
       unfolding on_vetted viewed message_at
-      ask_other n = zero_is ∙ ap (λ y. on_vetted a y (state_of u)) (vet_no confirmed h.confirmation (message_at f h) (λ y. n (y ∙ sym ek)))
+      ask_other n = zero_is ∙ ap (λ y. on_vetted a y (state_of u)) (vet_no confirmed v.header.confirmation (message_at f v.header) (λ y. n (y ∙ sym ek)))
 
-      pub ask_vetted : {before after : List ℕ} {r : Turn} → h.confirmation ≡ k → k < 2 → Turned u (on_shot h.multi_shot a (msg_at f h) (state_of u)) before r after →
+      pub ask_vetted : {before after : List ℕ} {r : Turn} → v.header.confirmation ≡ k → k < 2 → Turned u (on_shot v.header.multi_shot a (msg_at f v.header) (state_of u)) before r after →
           Turned u (on_request confirmed a (reading_in f) (state_of u)) before r after
       unfolding on_vetted viewed message_at msg_at
       ask_vetted c l g =
-          turned_as (zero_is ∙ ap (λ y. on_vetted a y (state_of u)) (vet_yes confirmed h.confirmation (message_at f h) (c ∙ ek))
-          ∙ ap (λ (b : Bool). on_shot b a (msg_at f h) (state_of u)) (shot_is f h (omega arith))) g
+          turned_as (zero_is ∙ ap (λ y. on_vetted a y (state_of u)) (vet_yes confirmed v.header.confirmation (message_at f v.header) (c ∙ ek))
+          ∙ ap (λ (b : Bool). on_shot b a (msg_at f v.header) (state_of u)) (shot_is f v.header (omega arith))) g
 
-pub reads_zero : (f : List ℕ) (h : Header) (n : ℕ) {x : Answer} → x ≡ reading_of f → x ≡ Whole h n → n ≡ 0 → ((i : ℕ) → octet f i < 256) → Reads f h 0
-reads_zero f h n q e z small = reads_made f h 0 q (e ∙ ap (Whole h) z) small
+pub reads_zero : (f : List ℕ) (v : Whole) {x : Result Whole Fault} → x ≡ reading_of f → x ≡ Ok v → v.extensions ≡ 0 → ((i : ℕ) → octet f i < 256) → Reads f v.header 0
+reads_zero f v q e z small = rw z at (reads_made f v q e small)
 
 -- ---- nobody waits in Idle, so there is room for one
 

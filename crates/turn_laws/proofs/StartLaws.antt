@@ -1,5 +1,5 @@
 -- 10 and 11: one law for each way out. Closed by cases on the state and on the frame.
-use Rattle.std.specs.Prelude.{None, Option, Some, Ok}
+use Rattle.std.specs.Prelude.{None, Option, Some, Result, Ok, Err}
 use Prim.Native.Nat.{ℕ, zero, suc, ◌<◌, ◌≤◌}
 use mathlib.Core.Path.{◌≡◌, refl, ap, sym, ◌∙◌}
 use mathlib.Core.Bool.{Bool, true, false}
@@ -11,8 +11,7 @@ use lib.ListN.{length, take}
 use Rattle.octets.specs.Choice.{pick}
 use Rattle.frame.specs.declared.Header.{Header}
 use Rattle.frame.specs.declared.Fault.{Fault}
-use Rattle.frame.specs.declared.Reading.{Reading as Answer}
-use Rattle.frame.specs.declared.Reading.TheVariants.{Whole, Faulty}
+use Rattle.frame.specs.declared.Whole.{Whole}
 use Rattle.frame.specs.Message.{Message}
 use Rattle.frame.specs.Faults.{fault_number}
 use Rattle.frame.specs.Reading.{reading_of}
@@ -156,16 +155,16 @@ module _ {u : Value} (k : Ready u) where
     pub start_none : {r : Turn} {before after : List ℕ} → length f ≡ 0 → Turned u (first_contact (setup_of u) a None) before r after → Turned u (on_start (setup_of u) a (or_nothing f) (state_of u)) before r after
     start_none z g = turned_as (by_start (nothing_is f z)) g
 
-    module _ (z : length f ≡ 0 → ⊥) {x : Answer} (q : x ≡ reading_of f) where
-      pub start_bad : {r : Turn} {before after : List ℕ} {y : Fault} {n : ℕ} → x ≡ Faulty y → n ≡ fault_number y → Turned u (done idle (send (cut n) ∷ [])) before r after →
+    module _ (z : length f ≡ 0 → ⊥) {x : Result Whole Fault} (q : x ≡ reading_of f) where
+      pub start_bad : {r : Turn} {before after : List ℕ} {y : Fault} {n : ℕ} → x ≡ Err y → n ≡ fault_number y → Turned u (done idle (send (cut n) ∷ [])) before r after →
           Turned u (on_start (setup_of u) a (or_nothing f) (state_of u)) before r after
       unfolding first_contact
       start_bad {n = n} e en g = turned_as (by_start (frame_is f z ∙ ap Some (faulty_reading f q e ∙ ap bad (sym en)))) g
 
-      pub start_good : {r : Turn} {before after : List ℕ} {h : Header} {n : ℕ} → x ≡ Whole h n → Turned u (greeted (setup_of u) a (frame_at f h) n) before r after →
+      pub start_good : {r : Turn} {before after : List ℕ} {v : Whole} → x ≡ Ok v → Turned u (greeted (setup_of u) a (frame_at f v.header) v.extensions) before r after →
           Turned u (on_start (setup_of u) a (or_nothing f) (state_of u)) before r after
       unfolding greeted
-      start_good {h = h} {n = n} e g = turned_as (by_start (frame_is f z ∙ ap Some (whole_reading f h n q e))) g
+      start_good {v = v} e g = turned_as (by_start (frame_is f z ∙ ap Some (whole_reading f v q e))) g
 
 -- ---- the rules of 11
 
@@ -307,14 +306,14 @@ module _ {u : Value} (k : Ready u) where
         Turned u (on_reply (setup_of u) false (or_nothing f) (state_of u)) before r after
     answer_nothing z g = turned_as (ap (λ o. on_reply S₂ false o T₂) (nothing_is f z)) g
 
-    module _ (z : length f ≡ 0 → ⊥) {x : Answer} (q : x ≡ reading_of f) where
-      pub answer_faulty : {y : Fault} → u.state ≡ 1 → x ≡ Faulty y → Turned u (on_reply (setup_of u) false None (state_of u)) before r after →
+    module _ (z : length f ≡ 0 → ⊥) {x : Result Whole Fault} (q : x ≡ reading_of f) where
+      pub answer_faulty : {y : Fault} → u.state ≡ 1 → x ≡ Err y → Turned u (on_reply (setup_of u) false None (state_of u)) before r after →
           Turned u (on_reply (setup_of u) false (or_nothing f) (state_of u)) before r after
       answer_faulty n e g = turned_as (ap (λ o. on_reply S₂ false o T₂) (frame_is f z ∙ ap Some (faulty_reading f q e)) ∙ answer_bad S₂ u T₂ k.whole n _) g
 
-      pub answer_whole : {h : Header} {n : ℕ} → x ≡ Whole h n → Turned u (on_reply (setup_of u) false (Some (good (frame_at f h) n)) (state_of u)) before r after →
+      pub answer_whole : {v : Whole} → x ≡ Ok v → Turned u (on_reply (setup_of u) false (Some (good (frame_at f v.header) v.extensions)) (state_of u)) before r after →
           Turned u (on_reply (setup_of u) false (or_nothing f) (state_of u)) before r after
-      answer_whole {h} {n} e g = turned_as (ap (λ o. on_reply S₂ false o T₂) (frame_is f z ∙ ap Some (whole_reading f h n q e))) g
+      answer_whole {v} e g = turned_as (ap (λ o. on_reply S₂ false o T₂) (frame_is f z ∙ ap Some (whole_reading f v q e))) g
 
   -- ---- in Start-multi
   pub began : {v : Value} {r : Turn} {before after : List ℕ} {p : Pen} → u.state ≡ 2 → Laid before fresh ((50 ∷ take u.octets u.kept) ∷ []) after p → v ≡ entered u 4 u.terms

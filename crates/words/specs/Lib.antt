@@ -1,4 +1,2 @@
 pub mod Lines
 pub mod Feeding
-pub mod Runs
-pub mod Taking

@@ -5,5 +5,5 @@ use Rattle.frame.proofs.one_octet.Goals as goal
 pub returns-then-held-eq1 : goal.returns-then-held-eq1
 returns-then-held-eq1 c = search octet_one
 
-pub returns : goal.returns
-returns c = search octet_none
+pub returns-else-held-eq1 : goal.returns-else-held-eq1
+returns-else-held-eq1 c = search octet_none

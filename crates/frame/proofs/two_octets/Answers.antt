@@ -5,5 +5,5 @@ use Rattle.frame.proofs.two_octets.Goals as goal
 pub returns-then-held-eq2 : goal.returns-then-held-eq2
 returns-then-held-eq2 c = search number_two
 
-pub returns : goal.returns
-returns c = search number_none
+pub returns-else-held-eq2 : goal.returns-else-held-eq2
+returns-else-held-eq2 c = search number_none

@@ -1,30 +1,24 @@
 -- `frame::reader::lacking` meets its contract. Closed by `simp` with the tests on the way.
-use borrow.Author.Tests.{le-leb, lt-leb, eq-eqb, ne_eqb}
-use Rattle.frame.specs.Message.{lacks}
-use Rattle.frame.proofs.ReaderLaws.{either_false}
+use mathlib.Core.Path.{◌∙◌}
 use native.Mathlib.Omega.{arith}
+use Rattle.frame.specs.Message.{lacks}
+use Rattle.frame.proofs.ReaderLaws.{either_false, lacks_high}
 use Rattle.frame.proofs.reader.lacking.Goals as goal
+use Rattle.frame.proofs.reader.lacking.Goals.{then-reference, else-reference}
 
-pub returns-then-confirmation-eq1 : goal.returns-then-confirmation-eq1
+pub returns-in-0 : goal.returns-in-0
 unfolding lacks
-returns-then-confirmation-eq1 c =
-    let a = c.args in
-    simp (eq-eqb a.confirmation 1 c.if-confirmation-eq1.true, lt-leb 2 a.confirmation (omega arith)) (either_false _)
+returns-in-0 c = simp c.in-0.is
 
-pub returns-then-confirmation-lt2 : goal.returns-then-confirmation-lt2
+pub returns-in-1 : goal.returns-in-1
 unfolding lacks
-returns-then-confirmation-lt2 c =
-    let a = c.args in
-    simp (ne_eqb a.confirmation 1 c.if-confirmation-eq1.false, lt-leb 2 a.confirmation (omega arith))
+returns-in-1 c = simp c.in-1.is (either_false _)
 
-pub returns-then-reference : goal.returns-then-reference
-unfolding lacks
-returns-then-reference c =
+pub returns-after-reference : goal.returns-after-reference
+returns-after-reference c =
     let a = c.args in
-    simp (ne_eqb a.confirmation 1 c.if-confirmation-eq1.false, le-leb 2 a.confirmation (omega arith), c.if-reference.true)
-
-pub returns : goal.returns
-unfolding lacks
-returns c =
-    let a = c.args in
-    simp (ne_eqb a.confirmation 1 c.if-confirmation-eq1.false, le-leb 2 a.confirmation (omega arith), c.if-reference.false)
+    lacks_high a.confirmation a.identifier a.reference a.sender (omega arith) c.if-reference.result
+    (elim c.if-reference.branch [
+      | then-reference w ↦ w.result-is ∙ simp w.if-reference.true
+      | else-reference w ↦ w.result-is ∙ simp w.if-reference.false
+    ])

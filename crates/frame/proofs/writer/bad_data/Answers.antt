@@ -1,9 +1,7 @@
--- `frame::writer::bad_data` meets its contract. Closed by laws of WriterLaws, one for each way out.
-use Rattle.frame.proofs.WriterLaws.{data_there, data_absent}
+-- `frame::writer::bad_data` meets its contract. Closed by WriterLaws' `data_wrong`.
+use borrow.Author.Rules.{rules}
+use Rattle.frame.proofs.WriterLaws.{data_wrong}
 use Rattle.frame.proofs.writer.bad_data.Goals as goal
 
-pub returns-then-present : goal.returns-then-present
-returns-then-present c = search data_there
-
 pub returns : goal.returns
-returns c = search data_absent
+returns c = data_wrong _ _ c.is_some_and.ensures (λ d p. search rules)
