@@ -37,7 +37,7 @@ use Rattle.session.specs.declared.Phase.{Phase}
 use Rattle.session.specs.declared.Phase.TheVariants.{First, Running, Stopped}
 use Rattle.std.specs.Option.{unwrap_or}
 use Rattle.std.specs.Borrow.{Bor}
-use Rattle.session.specs.Walking.{held_in}
+use Rattle.text.specs.Reading.{held_in}
 use Rattle.session.proofs.WalkLaws.{shows, text_one, text-append, print_put, printed_long}
 
 -- ---- room

@@ -1,6 +1,5 @@
 -- The lines that lie in a buffer, each as a 2-octet length and its octets. For the functions of this crate; no public contract speaks of it.
 use Rattle.std.specs.Prelude.{ℕ, zero, suc, ◌+◌, ◌*◌, ◌≤◌, ◌<◌, ◌≡◌, List, [], ◌∷◌, ◌++◌, take, drop, get_or, None, Option, Some, Result, Ok, Err}
-use Rattle.std.specs.Borrow.{Bor}
 use Rattle.octets.specs.Put.{Put}
 use Rattle.book.specs.declared.Done.{Done}
 use Rattle.book.specs.declared.Refusal.{Refusal}
@@ -58,11 +57,6 @@ pub record Says (a : Answer) (before : List ℕ) (at : ℕ) (image after : List 
 -- a session that goes on with a unit: some lines, and the state
 abbrev pub stated : Value → (lines : List (List ℕ)) → Answer
 stated u ls = record { phase = Running; unit = u; lines = ls ++ (state_line u ∷ []) }
-
--- what a lent event holds
-abbrev pub held_in : Option (Bor (List ℕ)) → Option (List ℕ)
-held_in None = None
-held_in (Some e) = Some e.now
 
 -- what the type of a block's octets says of them
 pub record Octets (block : List ℕ) : Type 0 where

@@ -1,11 +1,12 @@
 // What a line of the input leaves and prints: the first line, each later one, and a line that is none.
 ghost use Rattle.std.specs.Prelude.{◌≤◌, ◌+◌, ◌++◌, [], length};
 ghost use Rattle.octets.specs.Put.{Put};
+ghost use Rattle.text.specs.Reading.{held_in};
 ghost use Rattle.book.specs.Step.{step};
 ghost use Rattle.image.specs.Image.{unit_of};
 ghost use Rattle.session.specs.Listing.{setup_in, begun, answer_to, listed};
 ghost use Rattle.session.specs.Feeding.{most, last_line};
-ghost use Rattle.session.specs.Walking.{Begins, Lays, Says, stated, held_in, verdict_lines, verdict_size};
+ghost use Rattle.session.specs.Walking.{Begins, Lays, Says, stated, verdict_lines, verdict_size};
 
 use crate::{Phase, walk};
 use book::{Refusal, Verdict};

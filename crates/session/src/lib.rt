@@ -2,10 +2,9 @@
 // session's unit, 618 octets, and lends it. The lines are heard one after the other by text's reader; here is what is answered to each.
 #![tactic(auto)]
 
-ghost use Rattle.std.specs.Prelude.{◌≡◌, ◌≤◌, IfSome, length, take};
+ghost use Rattle.std.specs.Prelude.{◌≡◌, ◌≤◌, length};
 ghost use Rattle.octets.specs.Put.{Put};
-ghost use Rattle.std.specs.Option.{option_map};
-ghost use Rattle.session.specs.Walking.{held_in, Octets};
+ghost use Rattle.session.specs.Walking.{Octets};
 ghost use Rattle.session.specs.Feeding.{State, state_of, standing, answer, unheard, longest, most, Feeds, finishing};
 
 use text::hearing;
@@ -33,17 +32,6 @@ pub type Fed = hearing::Fed<Session>;
 pub struct Desk {
     event: [u8; 2048],
     laid: [u8; 1024],
-}
-
-// The octets of an event, where a line has some.
-fn front(octets: &[u8; 2048], n: Option<usize>) -> Option<&[u8]>
-    requires { IfSome n (λ k. k ≤ 2048) }
-    ensures { held_in result ≡ option_map (λ k. take k octets.now) n }
-{
-    match n {
-        Some(n) => Some(&octets[..n]),
-        None => None,
-    }
 }
 
 impl Hearer for Phase {
@@ -74,7 +62,7 @@ impl Hearer for Phase {
         at: usize,
     ) -> Option<hearing::Fed<Phase>> {
         let line = text::line_in(input, &mut desk.event)?;
-        let event = front(&desk.event, line.octets);
+        let event = text::octets_of(line, &desk.event);
         let said = answers::answer(self, unit, event, &mut desk.laid, out, at);
         Some(hearing::Fed {
             state: said.phase,

@@ -1,6 +1,6 @@
 -- `session::answers::answer` meets its contract. Closed by AnswerLaws, one law for each phase.
 use mathlib.Core.Path.{refl}
-use Rattle.session.specs.Walking.{held_in}
+use Rattle.text.specs.Reading.{held_in}
 use Rattle.session.proofs.AnswerLaws.{answer_first, answer_event, answer_none, answer_stopped}
 use Rattle.session.proofs.answers.answer.Goals as goal
 
