@@ -10,7 +10,7 @@ ghost use Rattle.turn.specs.Acts.{Acted};
 use crate::held::Held;
 use crate::{ends, lines, moves};
 use book::{Refusal, Verdict};
-use frame::{Header, Reading};
+use frame::{Header, Whole};
 
 // Confirmation 0.
 fn on_plain<H: Held>(u: &mut H, frame: &[u8], h: Header, n: usize, out: &mut [u8]) -> Verdict
@@ -61,8 +61,7 @@ fn on_note<H: Held>(u: &mut H, frame: &[u8], h: Header, n: usize, out: &mut [u8]
     ensures { Acted (H.unit u.old) (on_dat (setup_of (H.unit u.old)) (good (frame_at frame.now h) n) (state_of (H.unit u.old))) out.old result (H.unit u.new) out.new }
 {
     let pen = lines::put_seen(out, n);
-    let i = h.reference;
-    let reference = state::needed_value(frame::two_octets(frame, i));
+    let reference = frame::two_octets(frame, h.reference).unwrap_or(0);
     let found = moves::find(u, reference);
     moves::rest(u);
     let Some(place) = found else {
@@ -98,12 +97,8 @@ pub(crate) fn on_data<H: Held>(u: &mut H, frame: &[u8], out: &mut [u8]) -> Verdi
     if !moves::takes(u, 6) {
         return Err(Refusal::WrongState);
     }
-    let reading = frame::read(frame);
-    match reading {
-        Reading::Faulty(f) => {
-            let reason = frame::fault_number(f);
-            ends::fall(u, out, reason)
-        }
-        Reading::Whole { header, extensions } => on_message(u, frame, header, extensions, out),
+    match frame::read(frame) {
+        Err(fault) => ends::fall(u, out, u8::from(fault)),
+        Ok(Whole { header, extensions }) => on_message(u, frame, header, extensions, out),
     }
 }

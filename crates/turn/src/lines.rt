@@ -11,7 +11,7 @@ ghost use Rattle.said.specs.Notes.{note_octets, answer_line};
 ghost use Rattle.said.specs.Saying.{seen_lines};
 
 use book::{Done, Terms, Verdict};
-use frame::{Header, OneOctet};
+use frame::Header;
 use image::seen::Seen;
 use said::{Note, Pen, Say};
 
@@ -222,13 +222,12 @@ fn put_note(out: &mut [u8], at: usize, note: Note, name: &[u8]) -> usize
     ensures { Put out.old at (note_octets note name.now) out.new result }
 {
     let shot = u8::from(note.multi_shot);
-    let message_type = note.message_type;
-    let OneOctet::Octet(t) = message_type else {
+    let Some(message_type) = note.message_type else {
         let next = pair(out, at, 24 + shot, note.confirmation);
         return put_sender(out, next, note.reference, name);
     };
     let next = pair(out, at, 88 + shot, note.confirmation);
-    let after = one(out, next, t);
+    let after = one(out, next, message_type);
     put_sender(out, after, note.reference, name)
 }
 
@@ -241,8 +240,7 @@ pub(crate) fn put_sent(out: &mut [u8], pen: Pen, note: Note, name: &[u8]) -> Pen
     requires room { pen.at + 12 + length name.now ≤ length out.old }
     ensures { Laid out.old pen ((50 ∷ note_octets note name.now) ∷ []) out.new result }
 {
-    let message_type = note.message_type;
-    let size = said::before_name(message_type) + name.len();
+    let size = said::before_name(note.message_type) + name.len();
     let next = head_one(out, pen.at, 0x32, size);
     let used = put_note(out, next, note, name);
     Pen {
@@ -261,8 +259,7 @@ pub(crate) fn put_noted(out: &mut [u8], pen: Pen, kind: u8, res: u8, note: Note,
     ensures laid { Laid out.old pen ((kind ∷ res ∷ note_octets note name.now) ∷ []) out.new result }
     ensures place { result.at ≤ pen.at + 10 + length name.now }
 {
-    let message_type = note.message_type;
-    let size = said::before_name(message_type) + name.len();
+    let size = said::before_name(note.message_type) + name.len();
     let next = head_two(out, pen.at, kind, res, size);
     let used = put_note(out, next, note, name);
     Pen {
@@ -284,7 +281,7 @@ fn put_answer(out: &mut [u8], pen: Pen, say: Say, id: u16, name: &[u8]) -> Pen
     let note = Note {
         multi_shot: say.multi_shot,
         confirmation: say.confirmation,
-        message_type: OneOctet::NoOctet,
+        message_type: None,
         reference: id,
     };
     put_noted(out, pen, 0x22, say.result, note, name)

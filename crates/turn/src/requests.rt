@@ -11,7 +11,7 @@ ghost use Rattle.turn.specs.Acts.{Acted};
 use crate::held::Held;
 use crate::{lines, moves};
 use book::{Refusal, Terms, Verdict};
-use frame::{Header, Reading};
+use frame::{Header, Whole};
 use said::Pen;
 
 // A confirmed message's identifier joins the waiting list.
@@ -23,9 +23,7 @@ fn join<H: Held>(u: &mut H, frame: &[u8], h: Header)
 {
     let c = h.confirmation;
     if c == 1 {
-        let i = h.identifier;
-        let id = state::needed_value(frame::two_octets(frame, i));
-        u.append(id);
+        u.append(frame::two_octets(frame, h.identifier).unwrap_or(0));
     }
 }
 
@@ -87,8 +85,7 @@ fn on_next_sure<H: Held>(u: &mut H, a: Terms, frame: &[u8], h: Header, out: &mut
     requires room { 1024 ≤ length out.old }
     ensures { Acted (H.unit u.old) (on_multi (bar a (msg_at frame.now h) (state_of (H.unit u.old))) a (msg_at frame.now h) (state_of (H.unit u.old))) out.old result (H.unit u.new) out.new }
 {
-    let i = h.identifier;
-    let id = state::needed_value(frame::two_octets(frame, i));
+    let id = frame::two_octets(frame, h.identifier).unwrap_or(0);
     if moves::find(u, id).is_some() {
         return Err(Refusal::Waits);
     }
@@ -166,8 +163,7 @@ pub(crate) fn on_request<H: Held>(
     requires room { 1024 ≤ length out.old }
     ensures { Acted (H.unit u.old) (on_request confirmed a (reading_in frame.now) (state_of (H.unit u.old))) out.old result (H.unit u.new) out.new }
 {
-    let reading = frame::read(frame);
-    let Reading::Whole { header, extensions } = reading else {
+    let Ok(Whole { header, extensions }) = frame::read(frame) else {
         return Err(Refusal::BadFrame);
     };
     if extensions != 0 {

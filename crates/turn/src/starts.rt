@@ -11,7 +11,7 @@ ghost use Rattle.turn.specs.Acts.{Acted};
 use crate::held::Held;
 use crate::{ends, lines, moves};
 use book::{Refusal, Terms, Verdict};
-use frame::{Header, Reading};
+use frame::{Header, Whole};
 use said::{Pen, Say};
 
 // A valid frame that is not expected here: 35 reason 10, and the unit stays.
@@ -116,15 +116,9 @@ pub(crate) fn on_start<H: Held>(u: &mut H, a: Terms, frame: &[u8], out: &mut [u8
     if frame.len() == 0 {
         return on_opened(u, a, out);
     }
-    let reading = frame::read(frame);
-    match reading {
-        Reading::Faulty(f) => {
-            let reason = frame::fault_number(f);
-            on_faulty_start(u, reason, out)
-        }
-        Reading::Whole { header, extensions } => {
-            on_greeted(u, a, frame, header, extensions, out)
-        }
+    match frame::read(frame) {
+        Err(fault) => on_faulty_start(u, u8::from(fault), out),
+        Ok(Whole { header, extensions }) => on_greeted(u, a, frame, header, extensions, out),
     }
 }
 
@@ -175,10 +169,9 @@ fn on_single_answer<H: Held>(u: &mut H, frame: &[u8], out: &mut [u8]) -> Verdict
     if frame.len() == 0 {
         return on_unanswered(u, out);
     }
-    let reading = frame::read(frame);
-    match reading {
-        Reading::Faulty(_) => on_unanswered(u, out),
-        Reading::Whole { header, extensions } => on_answered(u, frame, header, extensions, out),
+    match frame::read(frame) {
+        Err(_) => on_unanswered(u, out),
+        Ok(Whole { header, extensions }) => on_answered(u, frame, header, extensions, out),
     }
 }
 

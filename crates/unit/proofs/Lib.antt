@@ -1,3 +1,2 @@
-pub mod DataShown
 pub mod OneResult
 pub mod Refusals

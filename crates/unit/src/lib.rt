@@ -6,8 +6,6 @@ ghost use Rattle.book.specs.Step.{step, Turned, set_up};
 ghost use Rattle.unit.specs.UserData.{user_data_of};
 
 use book::{Terms, Turn, Unit};
-use frame::Reading;
-use said::after;
 use state::events;
 
 // What a setup writes over.
@@ -48,19 +46,13 @@ pub fn setup(start: u16, end: u16, inactivity: u16, name: &[u8]) -> Turn
 }
 
 // The user data of the frame that an event carries, as the very octets of the event; nothing where there are none.
+#[tactic(auto, unfolding(crate::specs::UserData::user_data_of))]
 pub fn user_data(event: &[u8]) -> &[u8]
     ensures { result.now ≡ user_data_of event.now }
 {
-    let e = events::event_of(event);
-    let from = events::frame_from(e);
-    let frame = after(event, from);
-    let reading = frame::read(frame);
-    let Reading::Whole {
-        header,
-        extensions: _,
-    } = reading
-    else {
-        return after(event, event.len());
-    };
-    frame::user_data(frame, header)
+    let frame = said::after(event, events::frame_from(events::event_of(event)));
+    match frame::read(frame) {
+        Ok(whole) => frame::user_data(frame, whole.header),
+        Err(_) => &[],
+    }
 }

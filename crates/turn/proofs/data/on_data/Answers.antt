@@ -11,10 +11,10 @@ pub returns-then-not-takes : goal.returns-then-not-takes
 returns-then-not-takes g c = refused_in_place _ (data_no c.requires.ready c.takes.ensures c.if-not-takes.true _) refl
 
 pub on_message-requires-clause-reads : goal.on_message-requires-clause-reads
-on_message-requires-clause-reads g c = reads_made _ _ _ c.read-reading.ensures c.in-Whole.is (λ j. omega (arith, c.shared_slice_known-1.given j))
+on_message-requires-clause-reads g c = reads_made _ _ c.read.ensures c.in-Ok.is (λ j. omega (arith, c.shared_slice_known-1.given j))
 
-pub returns-in-Faulty : goal.returns-in-Faulty
-returns-in-Faulty g c = heard_bad c.args.frame.now c.read-reading.ensures c.requires.ready (sym c.takes.ensures ∙ c.if-not-takes.false) c.in-Faulty.is c.fault_number-reason.ensures c.fall.ensures
+pub returns-in-Err : goal.returns-in-Err
+returns-in-Err g c = heard_bad c.args.frame.now c.read.ensures c.requires.ready (sym c.takes.ensures ∙ c.if-not-takes.false) c.in-Err.is c.from.ensures c.fall.ensures
 
-pub returns-in-Whole : goal.returns-in-Whole
-returns-in-Whole g c = heard_good c.args.frame.now c.read-reading.ensures c.in-Whole.is c.on_message.ensures
+pub returns-in-Ok : goal.returns-in-Ok
+returns-in-Ok g c = heard_good c.args.frame.now c.read.ensures c.in-Ok.is c.on_message.ensures

@@ -12,11 +12,11 @@ returns-then-count-eq0 g c = nobody_waits c.requires.ready c.args.frame.now c.re
 pub returns-then-frame-eq0 : goal.returns-then-frame-eq0
 returns-then-frame-eq0 g c = answer_nothing c.requires.ready c.args.frame.now c.if-frame-eq0.true c.on_unanswered.ensures
 
-pub returns-in-Faulty : goal.returns-in-Faulty
-returns-in-Faulty g c = answer_faulty c.requires.ready c.args.frame.now c.if-frame-eq0.false c.read-reading.ensures c.requires.in_state c.in-Faulty.is c.on_unanswered-in-Faulty.ensures
+pub returns-in-Err : goal.returns-in-Err
+returns-in-Err g c = answer_faulty c.requires.ready c.args.frame.now c.if-frame-eq0.false c.read.ensures c.requires.in_state c.in-Err.is c.on_unanswered-in-Err.ensures
 
-pub returns-in-Whole : goal.returns-in-Whole
-returns-in-Whole g c = answer_whole c.requires.ready c.args.frame.now c.if-frame-eq0.false c.read-reading.ensures c.in-Whole.is c.on_answered.ensures
+pub returns-in-Ok : goal.returns-in-Ok
+returns-in-Ok g c = answer_whole c.requires.ready c.args.frame.now c.if-frame-eq0.false c.read.ensures c.in-Ok.is c.on_answered.ensures
 
 pub on_answered-requires-clause-reads : goal.on_answered-requires-clause-reads
-on_answered-requires-clause-reads g c = reads_made _ _ _ c.read-reading.ensures c.in-Whole.is (λ j. omega (arith, c.shared_slice_known-1.given j))
+on_answered-requires-clause-reads g c = reads_made _ _ c.read.ensures c.in-Ok.is (λ j. omega (arith, c.shared_slice_known-1.given j))

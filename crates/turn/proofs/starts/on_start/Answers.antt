@@ -23,10 +23,10 @@ pub on_greeted-requires-clause-in_state : goal.on_greeted-requires-clause-in_sta
 on_greeted-requires-clause-in_state g c = start_idle c.requires.ready (sym c.takes.ensures ∙ c.if-not-takes.false)
 
 pub on_greeted-requires-clause-reads : goal.on_greeted-requires-clause-reads
-on_greeted-requires-clause-reads g c = reads_made _ _ _ c.read-reading.ensures c.in-Whole.is (λ j. omega (arith, c.shared_slice_known-1.given j))
+on_greeted-requires-clause-reads g c = reads_made _ _ c.read.ensures c.in-Ok.is (λ j. omega (arith, c.shared_slice_known-1.given j))
 
-pub returns-in-Faulty : goal.returns-in-Faulty
-returns-in-Faulty g c = start_bad c.requires.ready c.args.a c.args.frame.now (sym c.takes.ensures ∙ c.if-not-takes.false) c.if-frame-eq0.false c.read-reading.ensures c.in-Faulty.is c.fault_number-reason.ensures c.on_faulty_start.ensures
+pub returns-in-Err : goal.returns-in-Err
+returns-in-Err g c = start_bad c.requires.ready c.args.a c.args.frame.now (sym c.takes.ensures ∙ c.if-not-takes.false) c.if-frame-eq0.false c.read.ensures c.in-Err.is c.from.ensures c.on_faulty_start.ensures
 
-pub returns-in-Whole : goal.returns-in-Whole
-returns-in-Whole g c = start_good c.requires.ready c.args.a c.args.frame.now (sym c.takes.ensures ∙ c.if-not-takes.false) c.if-frame-eq0.false c.read-reading.ensures c.in-Whole.is c.on_greeted.ensures
+pub returns-in-Ok : goal.returns-in-Ok
+returns-in-Ok g c = start_good c.requires.ready c.args.a c.args.frame.now (sym c.takes.ensures ∙ c.if-not-takes.false) c.if-frame-eq0.false c.read.ensures c.in-Ok.is c.on_greeted.ensures
