@@ -1,5 +1,5 @@
 -- The lines that lie in a buffer, each as a 2-octet length and its octets. For the functions of this crate; no public contract speaks of it.
-use Rattle.std.specs.Prelude.{ℕ, zero, suc, ◌+◌, ◌*◌, ◌≤◌, ◌<◌, ◌≡◌, List, [], ◌∷◌, ◌++◌, take, drop, get_or, None, Option, Some, Result, Ok, Err}
+use Rattle.std.specs.Prelude.{ℕ, zero, suc, ◌+◌, ◌*◌, ◌≤◌, ◌<◌, ◌≡◌, List, [], ◌∷◌, ◌++◌, take, drop, get_or, Result, Ok, Err}
 use Rattle.octets.specs.Put.{Put}
 use Rattle.book.specs.declared.Done.{Done}
 use Rattle.book.specs.declared.Refusal.{Refusal}
