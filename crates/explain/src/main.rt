@@ -2,6 +2,8 @@
 // `words`, the reads and the writes are those of `blocks`.
 #![tactic(auto)]
 
+ghost use Rattle.explain.specs.Taking.{Takes};
+
 use blocks::{Page, Teller};
 use std::io::{Eprint, Print};
 use words::Reader;
@@ -12,6 +14,8 @@ struct Explain {
 }
 
 impl Teller for Explain {
+    ghost takes = { Takes };
+
     fn tell<R: Print + Eprint>(
         &mut self,
         page: &mut Page<'_, R>,
@@ -19,7 +23,7 @@ impl Teller for Explain {
         out: &mut [u8],
     ) -> usize {
         let fed = words::feed(self.reader, part, out);
-        self.reader = fed.reader;
+        self.reader = fed.state;
         page.say(&out[..fed.written]);
         fed.taken
     }

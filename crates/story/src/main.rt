@@ -3,6 +3,7 @@
 #![tactic(auto)]
 
 ghost use Rattle.std.specs.Prelude.{◌≤◌, length};
+ghost use Rattle.story.specs.Taking.{Takes};
 
 use blocks::{Page, Teller};
 use session::{Phase, Session};
@@ -40,6 +41,8 @@ fn line_end(part: &[u8]) -> usize
 }
 
 impl Teller for Story {
+    ghost takes = { Takes };
+
     // One line, and what the session answers. The buffers have room for what any line prints.
     fn tell<R: Print + Eprint>(
         &mut self,
@@ -53,7 +56,7 @@ impl Teller for Story {
         }
         let line = &part[..end];
         let fed = words::feed(self.reader, line, out);
-        self.reader = fed.reader;
+        self.reader = fed.state;
         page.say(&out[..fed.written]);
         let answer = session::feed(self.session, &mut self.unit, line, &mut self.said);
         self.session = answer.state;
