@@ -11,18 +11,17 @@ use native.Mathlib.Omega.{arith}
 use borrow.Author.Tests.{le-ltb, lt-ltb, eqb-true}
 use lib.Dec.{ltb, eqb}
 use lib.ListN.{length, take, drop}
-use lib.Seq.{sets}
 use Rattle.octets.specs.Choice.{pick, both, either}
 use Rattle.octets.specs.Put.{Put}
 use Rattle.octets.proofs.Puts as Puts
-use Rattle.text.specs.Reading.{leading, to_feed, event_in, line_in, held_in}
+use Rattle.text.specs.Reading.{to_feed, event_in, held_in}
 use Rattle.text.specs.Hearing.{Hears, ended, unended}
 use Rattle.text.specs.declared.Line.{Line}
 use Rattle.text.specs.declared.hearing.Fed.{Fed}
 use Rattle.text.specs.declared.hearing.Reader.{Reader}
 use Rattle.text.proofs.Found.{Read}
 use Rattle.words.specs.Lines.{no_digits, words_of, begins, frame_word, frame_line, explained}
-use Rattle.words.specs.Feeding.{indented_of, standing, line_text, answer, most, finishing}
+use Rattle.words.specs.Feeding.{indented_of, standing, answer, most, finishing}
 use Rattle.words.specs.Taking.{Explains, Digits, read, waits}
 use Rattle.words.specs.declared.Explainer.{Explainer}
 
@@ -153,13 +152,3 @@ module _ (s : Reader Explainer) (held out : List ℕ) where
   pub finish_shut : most ≤ length out → either s.passing (ltb 0 (length held)) ≡ false → (Put out 0 (finishing (length out) (standing s) held) out 0) × (0 ≤ length out)
   unfolding finishing
   finish_shut h o = (rw (le-ltb (length out) most h, o) (Puts.none out 0), omega arith)
-
-module _ {p : Bool} (x : Bool) where
-  pub open_passing : p ≡ true → either p x ≡ true
-  open_passing e = rw e
-
-  pub open_held : p ≡ false → x ≡ true → either p x ≡ true
-  open_held e f = rw (e, f)
-
-  pub shut : p ≡ false → x ≡ false → either p x ≡ false
-  shut e f = rw (e, f)

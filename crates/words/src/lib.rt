@@ -179,7 +179,7 @@ pub fn finish(s: Reader, held: &[u8], out: &mut [u8]) -> usize
     if out.len() < Explainer::MOST {
         return 0;
     }
-    if s.passing || !held.is_empty() {
+    if s.is_open(held) {
         return s.hearer.explain(false, None, 0, out, 0).written;
     }
     0

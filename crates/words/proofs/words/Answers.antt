@@ -1,5 +1,5 @@
 -- `words::words` meets its contract. Closed by the way that is taken.
-use mathlib.Core.Path.{ap, sym, ◌∙◌}
+use mathlib.Core.Path.{ap}
 use native.Mathlib.Omega.{arith}
 use Rattle.text.specs.Reading.{held_in}
 use Rattle.phrases.proofs.PageLaws.{then, within, writes_as}

@@ -1,5 +1,4 @@
 -- `words::Explainer::digits` meets its contract. Closed by text's laws of a line, as the code reads it.
-use mathlib.Core.Path.{refl, sym, ◌∙◌}
 use native.Mathlib.Omega.{arith}
 use Rattle.text.proofs.Found.{line_read, line_unended}
 use Rattle.words.proofs.LineLaws.{digits_wait, digits_read}
