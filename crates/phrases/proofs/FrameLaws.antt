@@ -1,8 +1,8 @@
 -- Laws of a frame in words: a part that is present, and a frame or nothing. Closed by `rw` with what was read.
-use Rattle.std.specs.Prelude.{None, Option, Some, Result, Ok, Err, is_some}
+use Rattle.std.specs.Prelude.{None, Option, Some, Result, Err, is_some}
 use Prim.Native.Nat.{ℕ}
-use mathlib.Core.Path.{◌≡◌, refl}
-use mathlib.Core.Bool.{true, false}
+use mathlib.Core.Path.{◌≡◌}
+use mathlib.Core.Bool.{true}
 use mathlib.Core.List.{List, [], ◌++◌}
 use native.Mathlib.Omega.{arith}
 use borrow.Author.Tests.{eq-eqb, ne_eqb}

@@ -1,19 +1,19 @@
 -- Laws of spelling: a number's digits, and octets as they are shown. Closed by `rw` with the tests.
 use Prim.Native.Nat.{ℕ, zero, suc, ◌+◌, ◌-◌, ◌*◌, ◌/◌, ◌<◌, ◌≤◌}
-use mathlib.Core.Path.{◌≡◌, refl, ap, ◌∙◌}
+use mathlib.Core.Path.{◌≡◌, refl}
 use mathlib.Core.Bool.{true, false}
 use mathlib.Core.List.{List, [], ◌∷◌, ◌++◌, append-nil}
 use native.Mathlib.Omega.{arith}
 use borrow.Author.Tests.{le-ltb, lt-ltb}
-use lib.ListN.{length, take, length-take}
-use lib.Seq.{sets, length-sets}
+use lib.ListN.{length, take}
+use lib.Seq.{sets}
 use Rattle.std.proofs.lemmas.List.{take_min}
 use Rattle.std.specs.List.{list_all}
 use Rattle.std.specs.Prelude.{min}
 use Rattle.octets.specs.Put.{Put}
 use Rattle.text.specs.Printing.{digits_of}
 use Rattle.text.proofs.PrintLaws.{digits_long}
-use Rattle.phrases.specs.Spelling.{spelled, digit, decimal_in, printable, quote, shown, more_words, beginning}
+use Rattle.phrases.specs.Spelling.{spelled, digit, decimal_in, printable, quote, shown, beginning}
 
 -- ---- numbers
 

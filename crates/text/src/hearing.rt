@@ -1,5 +1,6 @@
 // Lines heard one after the other, in parts of any length: what is the same for all who hear them.
 ghost use Rattle.std.specs.Prelude.{◌≡◌, ◌≤◌, ◌+◌, ◌-◌, true, false, ltb, length, drop, take, Option, List, ℕ, Some, None};
+ghost use Rattle.octets.specs.Choice.{either};
 ghost use Rattle.text.specs.Hearing.{Answer, Heard, Hears, Takes, Feeds, standing, left_at, line_taken, feeding};
 
 // A reader: who hears the lines, and whether a line that is too long is being passed over.
@@ -7,6 +8,15 @@ ghost use Rattle.text.specs.Hearing.{Answer, Heard, Hears, Takes, Feeds, standin
 pub struct Reader<H> {
     pub hearer: H,
     pub passing: bool,
+}
+
+impl<H> Reader<H> {
+    // Whether the end of the input leaves a line without its line feed, where `held` is what was not taken.
+    pub fn is_open(&self, held: &[u8]) -> bool
+        ensures { result ≡ either self.now.passing (ltb 0 (length held.now)) }
+    {
+        self.passing || !held.is_empty()
+    }
 }
 
 // What a part of the input left: who reads on, how many characters were taken, and the place after what was written.

@@ -1,1 +1,4 @@
 pub mod KindLaws
+pub mod LineLaws
+pub mod Whole
+pub mod OneResult

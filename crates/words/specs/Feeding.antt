@@ -4,8 +4,11 @@ use Rattle.std.specs.Prelude.{ℕ, Bool, true, false, List, [], ◌∷◌, ◌++
 use Rattle.octets.specs.Choice.{pick, either}
 use Rattle.text.specs.Hearing as Hearing
 use Rattle.text.specs.Hearing.{Answer, Standing, Taken, Feeding}
+use Rattle.text.specs.declared.hearing.Fed.{Fed}
+use Rattle.text.specs.declared.hearing.Reader.{Reader}
 use Rattle.phrases.specs.Spelling.{spelled}
 use Rattle.words.specs.Lines.{no_digits, explained}
+use Rattle.words.specs.declared.Explainer.{Explainer}
 
 -- ---- the whole
 
@@ -34,9 +37,16 @@ explanation m input = explanation_from m [] input
 
 -- ---- one line
 
+-- the code's, whatever is lent beside it
+abbrev pub indented_of : Explainer → Unit {0} → Bool
+indented_of h u = h.indented
+
+abbrev pub standing : Reader Explainer → Standing Bool
+standing s = Hearing.standing indented_of s tt
+
 -- before the first line
-abbrev pub fresh : (indented : Bool) → Standing Bool
-fresh m = record { state = m; passing = false }
+abbrev pub fresh : (indented : Bool) → Reader Explainer
+fresh m = record { hearer = record { indented = m }; passing = false }
 
 -- the characters of the longest line: the word for a frame and 4,096 digits
 abbrev pub longest : ℕ
@@ -60,6 +70,10 @@ most = 512
 -- one line after the other, at most `lines` of them, until there is no room for one more
 abbrev pub feeding : (lines room : ℕ) → Standing Bool → List ℕ → Feeding Bool
 feeding = Hearing.feeding longest most answer
+
+-- what `feed` answers, and the whole buffer
+abbrev pub Feeds : Standing Bool → (i before : List ℕ) → Fed (Reader Explainer) → (after : List ℕ) → Type 0
+Feeds s i before r after = Hearing.Feeds indented_of (feeding (length i) (length before) s i) i before tt after r
 
 -- ---- the end of the input
 

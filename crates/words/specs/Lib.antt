@@ -1,2 +1,4 @@
 pub mod Lines
 pub mod Feeding
+pub mod Runs
+pub mod Taking

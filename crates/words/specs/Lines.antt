@@ -157,10 +157,6 @@ output_words s Input = input_words s
 unfoldable pub line_words : List ℕ → List ℕ
 line_words s = output_words s (output_of s)
 
-abbrev pub octets_words : Option (List ℕ) → List ℕ
-octets_words None = no_digits
-octets_words (Some s) = line_words s
-
 -- ---- a bare frame
 
 abbrev pub frame_word : List ℕ
@@ -174,12 +170,14 @@ begins (c ∷ w) (d ∷ s) = both (eqb d c) (begins w s)
 unfoldable pub frame_line : List ℕ → List ℕ
 frame_line s = spelled "frame: " ++ frame_words s
 
-abbrev pub bare_words : Option (List ℕ) → List ℕ
-bare_words None = no_digits
-bare_words (Some s) = frame_line s
-
 -- ---- the whole
+
+-- what is said of digits, by the event that they are: of a bare frame, and of any other line
+abbrev pub words_of : (framed : Bool) → Option (List ℕ) → List ℕ
+words_of framed None = no_digits
+words_of true (Some s) = frame_line s
+words_of false (Some s) = line_words s
 
 -- the explanation of a line, both without their line feed
 unfoldable pub explained : List ℕ → List ℕ
-explained line = pick (begins frame_word line) (bare_words (event_in (drop 6 line))) (octets_words (event_in line))
+explained line = pick (begins frame_word line) (words_of true (event_in (drop 6 line))) (words_of false (event_in line))

@@ -1,5 +1,4 @@
 -- `phrases::frames::frame_or_nothing` meets its contract. Closed by FrameLaws, one law for each way out.
-use mathlib.Core.Path.{sym, ◌∙◌}
 use borrow.Author.Rules.{rules}
 use native.Mathlib.Omega.{arith}
 use Rattle.phrases.proofs.FrameLaws.{frame_absent, frame_present}

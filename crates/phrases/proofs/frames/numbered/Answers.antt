@@ -1,6 +1,5 @@
 -- `phrases::frames::numbered` meets its contract. Closed by the way that is taken.
 use mathlib.Core.Path.{ap, sym}
-use native.Mathlib.Omega.{arith}
 use Rattle.phrases.specs.Frames.{numbered}
 use Rattle.phrases.proofs.PageLaws.{then, writes_as}
 use Rattle.phrases.proofs.frames.numbered.Goals as goal
