@@ -9,7 +9,6 @@ use lib.ListN.{length}
 use Rattle.book.specs.Step.{step, octets_of, turn_of, Turned}
 use Rattle.book.specs.declared.Unit.{Unit as Value}
 use Rattle.book.specs.declared.Turn.{Turn}
-use Rattle.book.specs.Refusals.{refusal_number}
 use Rattle.book.specs.declared.Done.{Done}
 use Rattle.book.specs.declared.Refusal.{Refusal}
 use Rattle.book.specs.declared.Refusal.TheVariants.{NoRoom, Unsound}

@@ -1,16 +1,15 @@
 -- A turn over a lent unit from a turn by value, and what was read of the unit in a law that speaks of it.
 use Rattle.std.specs.Prelude.{Option, Some, Result, Err}
-use Prim.Native.Nat.{ℕ, zero, suc, ◌+◌, ◌-◌, ◌<◌, ◌≤◌}
-use mathlib.Core.Path.{◌≡◌, refl, ap, sym, ◌∙◌}
-use mathlib.Core.Bool.{Bool, true, not}
+use Prim.Native.Nat.{ℕ, ◌+◌, ◌<◌, ◌≤◌}
+use mathlib.Core.Path.{◌≡◌, ap, sym, ◌∙◌}
+use mathlib.Core.Bool.{not}
 use mathlib.Core.List.{List, [], ◌∷◌, ◌++◌, map}
 use native.Mathlib.Omega.{arith}
-use borrow.Author.Tests.{lt-ltb, ne_eqb}
 use Rattle.book.specs.declared.Unit.{Unit as Value}
 use Rattle.book.specs.declared.Turn.{Turn}
 use Rattle.book.specs.declared.Done.{Done}
 use Rattle.book.specs.declared.Refusal.{Refusal}
-use Rattle.book.specs.Book.{State, idle, single, multi, ending, assoc, Setup, Outcome, refused, Msg, Reading, on_single, on_multi, on_start, on_reply, on_dat, on_end, on_fin, on_fin_ok, on_abort}
+use Rattle.book.specs.Book.{Outcome, refused}
 use Rattle.book.specs.Picture.{setup_of, state_of, ids_in}
 use Rattle.book.specs.Lines.{terms_octets}
 use Rattle.book.specs.Waiting.{place_of}
@@ -18,20 +17,18 @@ use Rattle.book.specs.declared.Terms.{Terms}
 use Rattle.turn_laws.proofs.DataLaws.{place_below}
 use Rattle.said.specs.declared.Note.{Note}
 use Rattle.said.specs.declared.Say.{Say}
-use Rattle.book.specs.Turns.{takes}
 use Rattle.book.specs.Ready.{Ready}
 use Rattle.book.specs.Step.{does, turn_of, octets_of, Turned}
 use Rattle.book.specs.Events.{event_of, frame_from}
 use Rattle.book.specs.declared.Event.{Event}
-use Rattle.turn_laws.proofs.Moved.{number_of, number_is}
 use Rattle.turn_laws.proofs.Gave.{doubts_put, turned_as}
 use Rattle.said.specs.Pens.{Laid}
 use Rattle.said.specs.Notes.{note_octets, answer_line}
 use Rattle.said.specs.Saying.{doubts}
 use Rattle.turn_laws.specs.Moves.{advanced, entered}
 use Rattle.said.specs.declared.Pen.{Pen}
-use lib.ListN.{length, take, drop, get_or, replicate, length-drop}
-use lib.Seq.{take-take, length-take-le}
+use lib.ListN.{length, take, drop, replicate}
+use lib.Seq.{length-take-le}
 use lib.Dec.{eqb}
 
 pub as_turn : {v : Value} {r x : Result Done Refusal} → r ≡ x → ◌≡◌ {A = Turn} (record { unit = v; verdict = r }) (record { unit = v; verdict = x })

@@ -2,7 +2,6 @@
 use mathlib.Core.Path.{refl, sym, ◌∙◌}
 use Rattle.turn_laws.proofs.Moved.{padded-sets}
 use Rattle.turn_laws.proofs.SetupLaws.{set_up_lem, not_set, within_name}
-use Rattle.book.specs.Step.{turn_of}
 use Rattle.turn.proofs.TurnLaws.{as_refused}
 use Rattle.turn.proofs.setup.Goals as goal
 

@@ -3,7 +3,6 @@ use Rattle.turn_laws.proofs.DataLaws.{heard_note_none, heard_note_some}
 use Rattle.turn.proofs.TurnLaws.{as_turn, place_counted}
 use Rattle.turn.proofs.MoveLaws.{needed_or, none_behind, rested_behind, rested_count}
 use native.Mathlib.Omega.{arith}
-use borrow.Author.Rules.{rules}
 use Rattle.turn.proofs.data.on_note.Goals as goal
 
 pub returns-in_default : goal.returns-in_default

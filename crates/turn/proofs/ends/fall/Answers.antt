@@ -1,7 +1,6 @@
 -- `turn::ends::fall` meets its contract. Closed by laws of EndLaws and TurnLaws.
 use Rattle.turn_laws.proofs.EndLaws.{fell}
 use Rattle.turn.proofs.TurnLaws.{as_turn}
-use native.Mathlib.Omega.{arith}
 use Rattle.turn.proofs.ends.fall.Goals as goal
 
 pub returns : goal.returns

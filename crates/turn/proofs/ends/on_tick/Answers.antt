@@ -8,9 +8,6 @@ use Rattle.turn.proofs.ends.on_tick.Goals as goal
 pub returns-then-s-eq0 : goal.returns-then-s-eq0
 returns-then-s-eq0 g c = ticked_idle c.requires.ready (sym c.state-s.ensures ∙ c.if-s-eq0.true) (as_turn c.finished.ensures)
 
-pub overflow_add-e : goal.overflow_add-e
-overflow_add-e g c = omega (arith, c.requires.ready.early (λ z. c.if-s-eq0.false (c.state-s.ensures ∙ z)), c.limit_of-limit.ensures, c.limit_of-limit.type_inv, c.elapsed-e.ensures)
-
 pub returns-then-e-limit : goal.returns-then-e-limit
 returns-then-e-limit g c = ticked_early c.requires.ready (λ z. c.if-s-eq0.false (c.state-s.ensures ∙ z)) c.limit_of-limit.ensures (omega (arith, c.if-e-limit.true, c.elapsed-e.ensures)) (tick_moved _ _ _ c.state-s.ensures c.elapsed-e.ensures c.at_elapsed.ensures) (as_turn c.finished-then-e-limit.ensures)
 

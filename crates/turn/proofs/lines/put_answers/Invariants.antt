@@ -1,8 +1,7 @@
 -- `turn::lines::put_answers` meets its contract. Closed by laws of PenLaws.
 use mathlib.Core.List.{map}
 use Prim.Native.Nat.{◌≤◌, ◌+◌, ◌*◌}
-use mathlib.Core.Path.{◌≡◌}
-use lib.ListN.{length, take}
+use lib.ListN.{take}
 use Rattle.said.specs.Pens.{Laid}
 use Rattle.said.specs.Notes.{answer_line}
 use Rattle.turn.proofs.lines.put_answers.Given as goal

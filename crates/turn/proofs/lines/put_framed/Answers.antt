@@ -2,11 +2,7 @@
 use Rattle.said.proofs.PenLaws.{line_bare}
 use mathlib.Core.List.{[], ◌∷◌}
 use borrow.Author.Rules.{rules}
-use native.Mathlib.Omega.{arith}
 use Rattle.turn.proofs.lines.put_framed.Goals as goal
 
 pub returns-clause-laid : goal.returns-clause-laid
 returns-clause-laid c = line_bare (c.args.a ∷ []) c.args.frame.now c.args.end _ (search rules) (search rules) c.head_one-next.ensures c.put_bare.ensures
-
-pub returns-clause-place : goal.returns-clause-place
-returns-clause-place c = omega (arith, c.head_one-next.ensures.place)

@@ -4,7 +4,6 @@ use Rattle.said.proofs.PenLaws.{line_made}
 use mathlib.Core.List.{[], ◌∷◌}
 use mathlib.Core.Path.{refl}
 use borrow.Author.Rules.{rules}
-use native.Mathlib.Omega.{arith}
 use Rattle.turn.proofs.lines.put_seen.Goals as goal
 
 pub returns-then-n-eq0-clause-laid : goal.returns-then-n-eq0-clause-laid
@@ -12,6 +11,3 @@ returns-then-n-eq0-clause-laid c = search seen_none
 
 pub returns-clause-laid : goal.returns-clause-laid
 returns-clause-laid c = seen_some _ (search rules) (search rules) (line_made (37 ∷ []) _ 2 0 _ refl c.head_one-next.ensures c.pair-end.ensures)
-
-pub returns-clause-place : goal.returns-clause-place
-returns-clause-place c = omega (arith, c.head_one-next.ensures.place, c.pair-end.ensures.place)

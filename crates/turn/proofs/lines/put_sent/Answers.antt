@@ -5,7 +5,6 @@ use mathlib.Core.Path.{ap}
 use Prim.Native.Nat.{◌+◌}
 use lib.ListN.{length}
 use borrow.Author.Rules.{rules}
-use native.Mathlib.Omega.{arith}
 use Rattle.turn.proofs.lines.put_sent.Goals as goal
 
 pub returns : goal.returns

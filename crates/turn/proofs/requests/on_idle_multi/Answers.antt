@@ -1,7 +1,6 @@
 -- `turn::requests::on_idle_multi` meets its contract. Closed by laws of RequestLaws and TurnLaws.
 use Rattle.turn_laws.proofs.RequestLaws.{asked_multi, frame_short, kept_room}
 use Rattle.turn.proofs.TurnLaws.{as_turn, blank_kept}
-use borrow.Author.Rules.{rules}
 use Rattle.turn.proofs.requests.on_idle_multi.Goals as goal
 
 pub returns : goal.returns

@@ -1,7 +1,6 @@
 -- `turn::requests::on_idle_single` meets its contract. Closed by laws of RequestLaws and TurnLaws.
 use Rattle.turn_laws.proofs.RequestLaws.{asked_single, idle_room}
 use Rattle.turn.proofs.TurnLaws.{as_turn}
-use borrow.Author.Rules.{rules}
 use Rattle.turn.proofs.requests.on_idle_single.Goals as goal
 
 pub returns : goal.returns

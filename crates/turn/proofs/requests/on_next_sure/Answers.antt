@@ -6,7 +6,6 @@ use mathlib.Core.Path.{refl, ap, sym, ◌∙◌}
 use Rattle.turn_laws.specs.Moves.{advanced}
 use Rattle.book.specs.declared.Unit.{Unit as Value}
 use native.Mathlib.Omega.{arith}
-use borrow.Author.Rules.{rules}
 use Rattle.turn.proofs.requests.on_next_sure.Goals as goal
 
 pub returns-then-is_some : goal.returns-then-is_some

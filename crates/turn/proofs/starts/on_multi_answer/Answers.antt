@@ -1,9 +1,6 @@
 -- `turn::starts::on_multi_answer` meets its contract. Closed by laws of StartLaws.
-use Rattle.turn_laws.proofs.StartLaws.{multi_begun, multi_octets, multi_rejected}
+use Rattle.turn_laws.proofs.StartLaws.{multi_octets, multi_rejected}
 use Rattle.turn.proofs.starts.on_multi_answer.Goals as goal
-
-pub returns-then-frame-eq0 : goal.returns-then-frame-eq0
-returns-then-frame-eq0 g c = multi_begun c.requires.ready c.args.frame.now c.if-accepted.true c.if-frame-eq0.true c.on_begun.ensures
 
 pub returns-then-accepted : goal.returns-then-accepted
 returns-then-accepted g c = multi_octets c.requires.ready c.args.frame.now c.requires.in_state c.if-accepted.true c.if-frame-eq0.false c.fall.ensures

@@ -1,5 +1,5 @@
 -- `turn::starts::on_reply` meets its contract. Closed by laws of StartLaws and TableLaws.
-use Rattle.turn_laws.proofs.StartLaws.{reply_single, single_accepted, single_rejected}
+use Rattle.turn_laws.proofs.StartLaws.{reply_single, single_accepted}
 use Rattle.turn.proofs.TableLaws.{reply_no}
 use Rattle.turn.proofs.TurnLaws.{refused_in_place}
 use mathlib.Core.Path.{refl, sym, ◌∙◌}
@@ -13,6 +13,3 @@ returns-then-accepted g c = single_accepted c.requires.ready c.args.frame.now (s
 
 pub on_single_answer-requires-clause-in_state : goal.on_single_answer-requires-clause-in_state
 on_single_answer-requires-clause-in_state g c = reply_single c.requires.ready (sym c.takes.ensures ∙ c.if-not-takes.false) (λ z. c.if-state-eq2.false (c.state.ensures ∙ z))
-
-pub returns : goal.returns
-returns g c = single_rejected c.requires.ready c.args.frame.now c.if-accepted.false c.on_single_answer.ensures

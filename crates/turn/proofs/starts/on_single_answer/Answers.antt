@@ -1,5 +1,5 @@
 -- `turn::starts::on_single_answer` meets its contract. Closed by laws of StartLaws and TurnLaws.
-use Rattle.turn_laws.proofs.StartLaws.{nobody_waits, answer_nothing, answer_faulty, answer_whole}
+use Rattle.turn_laws.proofs.StartLaws.{nobody_waits, answer_faulty, answer_whole}
 use Rattle.turn.proofs.TurnLaws.{as_turn}
 use Rattle.book.proofs.Views.{reads_made}
 use mathlib.Core.Path.{sym, ◌∙◌}
@@ -8,9 +8,6 @@ use Rattle.turn.proofs.starts.on_single_answer.Goals as goal
 
 pub returns-then-count-eq0 : goal.returns-then-count-eq0
 returns-then-count-eq0 g c = nobody_waits c.requires.ready c.args.frame.now c.requires.in_state (sym c.count.ensures ∙ c.if-count-eq0.true) c.to_idle.ensures (as_turn c.finished.ensures)
-
-pub returns-then-frame-eq0 : goal.returns-then-frame-eq0
-returns-then-frame-eq0 g c = answer_nothing c.requires.ready c.args.frame.now c.if-frame-eq0.true c.on_unanswered.ensures
 
 pub returns-in-Err : goal.returns-in-Err
 returns-in-Err g c = answer_faulty c.requires.ready c.args.frame.now c.if-frame-eq0.false c.read.ensures c.requires.in_state c.in-Err.is c.on_unanswered-in-Err.ensures

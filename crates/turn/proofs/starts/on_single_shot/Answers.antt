@@ -2,7 +2,6 @@
 use Rattle.turn_laws.proofs.StartLaws.{shot_plain, shot_sure}
 use Rattle.turn.proofs.TurnLaws.{as_turn, name_as}
 use mathlib.Core.List.{[], ◌∷◌}
-use native.Mathlib.Omega.{arith}
 use Rattle.turn.proofs.starts.on_single_shot.Goals as goal
 
 pub returns-then-c-eq0 : goal.returns-then-c-eq0

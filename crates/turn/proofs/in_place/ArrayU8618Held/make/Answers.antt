@@ -2,9 +2,7 @@
 use Rattle.turn.proofs.MadeLaws.{laid_is}
 use Rattle.turn.proofs.PlaceLaws.{part_filled}
 use mathlib.Core.Path.{refl}
-use lib.Seq.{length-sets}
 use borrow.Author.Rules.{rules}
-use native.Mathlib.Omega.{arith}
 use Rattle.turn.proofs.in_place.ArrayU8618Held.make.Goals as goal
 
 pub returns : goal.returns
