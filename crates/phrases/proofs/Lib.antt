@@ -1,5 +1,5 @@
+pub mod PageLaws
 pub mod SpellLaws
-pub mod TableLaws
 pub mod FrameLaws
 pub mod OneResult
 pub mod Decimal

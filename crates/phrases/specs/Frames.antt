@@ -1,20 +1,18 @@
 -- A frame in words: each field that is present, in 01's order, or the fault.
-use Rattle.std.specs.Prelude.{ℕ, List, [], ◌++◌, eqb, length, None, Option, Some}
+use Rattle.std.specs.Prelude.{ℕ, List, [], ◌++◌, eqb, length, None, Option, Some, Result, Ok, Err}
 use Rattle.octets.specs.Choice.{pick}
 use Rattle.frame.specs.Faults.{fault_number}
 use Rattle.frame.specs.Reading.{reading_of}
 use Rattle.frame.specs.Decoding.{one_octet, two_octets, held_at, part_at}
-use Rattle.frame.specs.declared.Field.{Field}
-use Rattle.frame.specs.declared.Field.TheVariants.{Absent, At}
 use Rattle.frame.specs.declared.Fault.{Fault}
 use Rattle.frame.specs.declared.Header.{Header}
-use Rattle.frame.specs.declared.Reading.{Reading}
-use Rattle.frame.specs.declared.Reading.TheVariants.{Whole, Faulty}
+use Rattle.frame.specs.declared.Place.{Place}
+use Rattle.frame.specs.declared.Whole.{Whole}
 use Rattle.phrases.specs.Spelling.{spelled, decimal, beginning}
 use Rattle.phrases.specs.Tables.{shot_words, confirmation_words, fault_meaning}
 
 -- a number after a word, where there is one
-unfoldable pub numbered : (word : List ℕ) → Option ℕ → List ℕ
+abbrev pub numbered : (word : List ℕ) → Option ℕ → List ℕ
 numbered word None = []
 numbered word (Some n) = word ++ decimal n
 
@@ -22,25 +20,25 @@ numbered word (Some n) = word ++ decimal n
 abbrev pub type_word : List ℕ
 type_word = spelled ", type "
 
-abbrev pub type_words : List ℕ → Field → List ℕ
+abbrev pub type_words : List ℕ → Option Place → List ℕ
 type_words s f = numbered type_word (one_octet (held_at s f))
 
-abbrev pub identifier_words : List ℕ → Field → List ℕ
+abbrev pub identifier_words : List ℕ → Option Place → List ℕ
 identifier_words s f = numbered (spelled ", message ") (two_octets (held_at s f))
 
-abbrev pub reference_words : List ℕ → Field → List ℕ
+abbrev pub reference_words : List ℕ → Option Place → List ℕ
 reference_words s f = numbered (spelled ", answers message ") (two_octets (held_at s f))
 
-unfoldable pub sender_words : List ℕ → Field → List ℕ
-sender_words s Absent = []
-sender_words s (At a n) = spelled ", from " ++ beginning (part_at s (At a n))
+abbrev pub sender_words : List ℕ → Option Place → List ℕ
+sender_words s None = []
+sender_words s (Some p) = spelled ", from " ++ beginning (part_at s (Some p))
 
 -- how much, and its beginning
-unfoldable pub data_words : List ℕ → Field → List ℕ
-data_words s Absent = []
-data_words s (At a n) = spelled ", user data of length " ++ decimal (length (part_at s (At a n))) ++ spelled ": " ++ beginning (part_at s (At a n))
+abbrev pub data_words : List ℕ → Option Place → List ℕ
+data_words s None = []
+data_words s (Some p) = spelled ", user data of length " ++ decimal (length (part_at s (Some p))) ++ spelled ": " ++ beginning (part_at s (Some p))
 
-unfoldable pub extension_words : ℕ → List ℕ
+abbrev pub extension_words : ℕ → List ℕ
 extension_words n = pick (eqb n 0) [] (spelled ", extension fields: " ++ decimal n)
 
 unfoldable pub head_words : List ℕ → Header → List ℕ
@@ -59,9 +57,9 @@ unfoldable pub fault_words : Fault → List ℕ
 fault_words f = spelled "fault " ++ decimal (fault_number f) ++ spelled ": " ++ fault_meaning (fault_number f)
 
 -- "A reader gives either the whole message or the fault"
-abbrev pub reading_words : List ℕ → Reading → List ℕ
-reading_words s (Whole h n) = message_words s h n
-reading_words s (Faulty f) = fault_words f
+abbrev pub reading_words : List ℕ → Result Whole Fault → List ℕ
+reading_words s (Ok w) = message_words s w.header w.extensions
+reading_words s (Err f) = fault_words f
 
 unfoldable pub frame_words : List ℕ → List ℕ
 frame_words s = reading_words s (reading_of s)
@@ -71,9 +69,9 @@ unfoldable pub frame_or_nothing : List ℕ → List ℕ
 frame_or_nothing s = pick (eqb (length s) 0) (spelled "no frame") (frame_words s)
 
 -- the message that a confirmation answers
-abbrev pub answered_in : List ℕ → Reading → List ℕ
-answered_in s (Whole h n) = numbered (spelled " of message ") (two_octets (held_at s h.reference))
-answered_in s (Faulty f) = []
+abbrev pub answered_in : List ℕ → Result Whole Fault → List ℕ
+answered_in s (Ok w) = numbered (spelled " of message ") (two_octets (held_at s w.header.reference))
+answered_in s (Err f) = []
 
 unfoldable pub answered_words : List ℕ → List ℕ
 answered_words s = answered_in s (reading_of s)

@@ -1,3 +1,4 @@
+pub mod Page
 pub mod Spelling
 pub mod Tables
 pub mod Frames

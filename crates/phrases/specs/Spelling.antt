@@ -1,5 +1,6 @@
 -- Words, numbers and octets as a person reads them. A text in quotes is spelled by the codes of its characters; all texts here are ASCII.
-use Rattle.std.specs.Prelude.{ℕ, zero, suc, ◌+◌, ◌/◌, ◌%◌, Bool, true, not, List, [], ◌∷◌, ◌++◌, eqb, ltb, leb, length, take}
+use Rattle.std.specs.Prelude.{ℕ, zero, suc, ◌+◌, ◌/◌, ◌%◌, Bool, not, List, [], ◌∷◌, ◌++◌, eqb, ltb, leb, length, take}
+use Rattle.std.specs.List.{list_all}
 use Prim.Native.Char.{code}
 use Prim.Native.String.{String, [] as nothing, ◌∷◌ as ◌then◌}
 use Rattle.octets.specs.Choice.{pick, both, either}
@@ -30,18 +31,14 @@ decimal n = decimal_in 4 n
 unfoldable pub printable : ℕ → Bool
 printable c = both (both (leb 32 c) (leb c 126)) (not (either (eqb c 34) (eqb c 92)))
 
-unfoldable pub all_printable : List ℕ → Bool
-all_printable [] = true
-all_printable (c ∷ s) = both (printable c) (all_printable s)
-
 abbrev pub quote : List ℕ
 quote = 34 ∷ []
 
 -- octets as text in quotes where each is printable, else in hexadecimal
 unfoldable pub shown : List ℕ → List ℕ
-shown s = pick (all_printable s) (quote ++ s ++ quote) (spelled "octets " ++ digits_of s)
+shown s = pick (list_all printable s) (quote ++ s ++ quote) (spelled "octets " ++ digits_of s)
 
-unfoldable pub more_words : ℕ → List ℕ
+abbrev pub more_words : ℕ → List ℕ
 more_words n = pick (ltb 32 n) (spelled " ...") []
 
 -- the first 32 octets, and a sign where there are more

@@ -1,183 +1,155 @@
 // A frame in words: each field that is present, in 01's order, or the fault. The frame is read by crate `frame`.
-ghost use Rattle.std.specs.Prelude.{◌≡◌, ◌≤◌, ◌+◌, length};
-ghost use Rattle.octets.specs.Put.{Put};
-ghost use Rattle.frame.specs.Decoding.{octet_in, number_in, one_octet, two_octets, held_at};
-ghost use Rattle.phrases.specs.Frames.{numbered, type_word, type_words, sender_words, data_words, extension_words, head_words, names_words, rest_words, message_words, fault_words, frame_words, frame_or_nothing, answered_words};
+ghost use Rattle.std.specs.Prelude.{◌≤◌, ◌+◌, Option, ℕ, length};
+ghost use Rattle.frame.specs.Decoding.{one_octet, two_octets, held_at};
+ghost use Rattle.phrases.specs.Page.{Room, Writes};
+ghost use Rattle.phrases.specs.Frames.{numbered, type_words, sender_words, data_words, extension_words, head_words, names_words, rest_words, message_words, fault_words, frame_words, frame_or_nothing, answered_words};
 
-use crate::{spelling, tables};
-use frame::{Fault, Field, Header, OneOctet, Reading, TwoOctets};
-
-// A type, where there is one.
-fn type_value(out: &mut [u8], at: usize, n: OneOctet) -> usize
-    requires { at + 12 ≤ length out.old }
-    ensures { (Put out.old at (numbered type_word (octet_in n)) out.new result) × (result ≤ at + 12) }
-{
-    let OneOctet::Octet(x) = n else {
-        return at;
-    };
-    let next = spelling::say(out, at, b", type ");
-    spelling::octet(out, next, x)
-}
-
-fn message_type(out: &mut [u8], at: usize, frame: &[u8], field: Field) -> usize
-    requires { at + 12 ≤ length out.old }
-    ensures { (Put out.old at (type_words frame.now field) out.new result) × (result ≤ at + 12) }
-{
-    let n = frame::one_octet(frame, field);
-    type_value(out, at, n)
-}
+use crate::spelling::Page;
+use crate::tables;
+use frame::{Fault, Header, Place, Whole};
 
 // A number after a word, where there is one.
-fn numbered(out: &mut [u8], at: usize, word: &[u8], n: TwoOctets) -> usize
-    requires { (length word.now ≤ 18) × (at + 23 ≤ length out.old) }
-    ensures { (Put out.old at (numbered word.now (number_in n)) out.new result) × (result ≤ at + 23) }
+fn numbered(page: &mut Page, word: &[u8], n: Option<usize>)
+    requires { Room page.old (length word.now + 5) }
+    ensures { Writes page.old (numbered word.now n) (length word.now + 5) page.new }
 {
-    let TwoOctets::Number(x) = n else {
-        return at;
-    };
-    let next = spelling::say(out, at, word);
-    let value = x as usize;
-    spelling::number(out, next, value)
+    if let Some(n) = n {
+        page.say(word);
+        page.number(n);
+    }
+}
+
+fn message_type(page: &mut Page, frame: &[u8], place: Option<Place>)
+    requires { Room page.old 12 }
+    ensures { Writes page.old (type_words frame.now place) 12 page.new }
+{
+    numbered(
+        page,
+        b", type ",
+        frame::one_octet(frame, place).map(usize::from),
+    );
 }
 
 // An identifier or a reference of a frame.
-fn number_at(out: &mut [u8], at: usize, word: &[u8], frame: &[u8], field: Field) -> usize
-    requires { (length word.now ≤ 18) × (at + 23 ≤ length out.old) }
-    ensures { (Put out.old at (numbered word.now (two_octets (held_at frame.now field))) out.new result) × (result ≤ at + 23) }
+fn number_at(page: &mut Page, word: &[u8], frame: &[u8], place: Option<Place>)
+    requires { Room page.old (length word.now + 5) }
+    ensures { Writes page.old (numbered word.now (two_octets (held_at frame.now place))) (length word.now + 5) page.new }
 {
-    let n = frame::two_octets(frame, field);
-    numbered(out, at, word, n)
+    numbered(page, word, frame::two_octets(frame, place).map(usize::from));
 }
 
-fn sender(out: &mut [u8], at: usize, frame: &[u8], field: Field) -> usize
-    requires { at + 84 ≤ length out.old }
-    ensures { (Put out.old at (sender_words frame.now field) out.new result) × (result ≤ at + 84) }
+fn sender(page: &mut Page, frame: &[u8], place: Option<Place>)
+    requires { Room page.old 84 }
+    ensures { Writes page.old (sender_words frame.now place) 84 page.new }
 {
-    let Field::At { start: _, len: _ } = field else {
-        return at;
-    };
-    let part = frame::part(frame, field);
-    let next = spelling::say(out, at, b", from ");
-    spelling::beginning(out, next, part)
-}
-
-fn user_data(out: &mut [u8], at: usize, frame: &[u8], field: Field) -> usize
-    requires { at + 106 ≤ length out.old }
-    ensures { (Put out.old at (data_words frame.now field) out.new result) × (result ≤ at + 106) }
-{
-    let Field::At { start: _, len: _ } = field else {
-        return at;
-    };
-    let part = frame::part(frame, field);
-    let a = spelling::say(out, at, b", user data of length ");
-    let b = spelling::number(out, a, part.len());
-    let c = spelling::say(out, b, b": ");
-    spelling::beginning(out, c, part)
-}
-
-fn extensions(out: &mut [u8], at: usize, n: usize) -> usize
-    requires { at + 25 ≤ length out.old }
-    ensures { (Put out.old at (extension_words n) out.new result) × (result ≤ at + 25) }
-{
-    if n == 0 {
-        return at;
+    if place.is_some() {
+        page.say(b", from ");
+        page.beginning(frame::part(frame, place));
     }
-    let next = spelling::say(out, at, b", extension fields: ");
-    spelling::number(out, next, n)
+}
+
+fn user_data(page: &mut Page, frame: &[u8], place: Option<Place>)
+    requires { Room page.old 106 }
+    ensures { Writes page.old (data_words frame.now place) 106 page.new }
+{
+    if place.is_some() {
+        let part = frame::part(frame, place);
+        page.say(b", user data of length ");
+        page.number(part.len());
+        page.say(b": ");
+        page.beginning(part);
+    }
+}
+
+fn extensions(page: &mut Page, n: usize)
+    requires { Room page.old 25 }
+    ensures { Writes page.old (extension_words n) 25 page.new }
+{
+    if n != 0 {
+        page.say(b", extension fields: ");
+        page.number(n);
+    }
 }
 
 // What kind of message it is.
-fn head(out: &mut [u8], at: usize, frame: &[u8], h: Header) -> usize
-    requires { at + 40 ≤ length out.old }
-    ensures { (Put out.old at (head_words frame.now h) out.new result) × (result ≤ at + 40) }
+fn head(page: &mut Page, frame: &[u8], h: Header)
+    requires { Room page.old 40 }
+    ensures { Writes page.old (head_words frame.now h) 40 page.new }
 {
-    let kind = h.message_type;
-    let a = tables::shot(out, at, h.multi_shot);
-    let b = tables::confirmation(out, a, h.confirmation);
-    message_type(out, b, frame, kind)
+    page.say(tables::shot(h.multi_shot));
+    page.say(tables::confirmation(h.confirmation));
+    message_type(page, frame, h.message_type);
 }
 
 // Which message it is, and which it answers.
-fn names(out: &mut [u8], at: usize, frame: &[u8], h: Header) -> usize
-    requires { at + 46 ≤ length out.old }
-    ensures { (Put out.old at (names_words frame.now h) out.new result) × (result ≤ at + 46) }
+fn names(page: &mut Page, frame: &[u8], h: Header)
+    requires { Room page.old 46 }
+    ensures { Writes page.old (names_words frame.now h) 46 page.new }
 {
-    let identifier = h.identifier;
-    let reference = h.reference;
-    let next = number_at(out, at, b", message ", frame, identifier);
-    number_at(out, next, b", answers message ", frame, reference)
+    number_at(page, b", message ", frame, h.identifier);
+    number_at(page, b", answers message ", frame, h.reference);
 }
 
 // What it carries.
-fn rest(out: &mut [u8], at: usize, frame: &[u8], h: Header, n: usize) -> usize
-    requires { at + 215 ≤ length out.old }
-    ensures { (Put out.old at (rest_words frame.now h n) out.new result) × (result ≤ at + 215) }
+fn rest(page: &mut Page, frame: &[u8], message: Whole)
+    requires { Room page.old 215 }
+    ensures { Writes page.old (rest_words frame.now message.header message.extensions) 215 page.new }
 {
-    let name = h.sender;
-    let data = h.user_data;
-    let a = sender(out, at, frame, name);
-    let b = user_data(out, a, frame, data);
-    extensions(out, b, n)
+    sender(page, frame, message.header.sender);
+    user_data(page, frame, message.header.user_data);
+    extensions(page, message.extensions);
 }
 
 // Each field that is present.
-fn message(out: &mut [u8], at: usize, frame: &[u8], h: Header, n: usize) -> usize
-    requires { at + 310 ≤ length out.old }
-    ensures { (Put out.old at (message_words frame.now h n) out.new result) × (result ≤ at + 310) }
+fn message(page: &mut Page, frame: &[u8], message: Whole)
+    requires { Room page.old 310 }
+    ensures { Writes page.old (message_words frame.now message.header message.extensions) 310 page.new }
 {
-    let a = head(out, at, frame, h);
-    let b = names(out, a, frame, h);
-    rest(out, b, frame, h, n)
+    head(page, frame, message.header);
+    names(page, frame, message.header);
+    rest(page, frame, message);
 }
 
-fn fault(out: &mut [u8], at: usize, f: Fault) -> usize
-    requires { at + 65 ≤ length out.old }
-    ensures { (Put out.old at (fault_words f) out.new result) × (result ≤ at + 65) }
+fn fault(page: &mut Page, f: Fault)
+    requires { Room page.old 65 }
+    ensures { Writes page.old (fault_words f) 65 page.new }
 {
-    let n = frame::fault_number(f);
-    let a = spelling::say(out, at, b"fault ");
-    let b = spelling::octet(out, a, n);
-    let c = spelling::say(out, b, b": ");
-    tables::fault_meaning(out, c, n)
+    let n = u8::from(f);
+    page.say(b"fault ");
+    page.number(usize::from(n));
+    page.say(b": ");
+    page.say(tables::fault_meaning(n));
 }
 
 // A frame: its message, or its fault.
-pub fn frame_words(out: &mut [u8], at: usize, frame: &[u8]) -> usize
-    requires { at + 310 ≤ length out.old }
-    ensures { (Put out.old at (frame_words frame.now) out.new result) × (result ≤ at + 310) }
+pub fn frame_words(page: &mut Page, frame: &[u8])
+    requires { Room page.old 310 }
+    ensures { Writes page.old (frame_words frame.now) 310 page.new }
 {
-    let reading = frame::read(frame);
-    match reading {
-        Reading::Whole { header, extensions } => message(out, at, frame, header, extensions),
-        Reading::Faulty(f) => fault(out, at, f),
+    match frame::read(frame) {
+        Ok(whole) => message(page, frame, whole),
+        Err(f) => fault(page, f),
     }
 }
 
 // "frame or nothing"
-pub fn frame_or_nothing(out: &mut [u8], at: usize, frame: &[u8]) -> usize
-    requires { at + 310 ≤ length out.old }
-    ensures { (Put out.old at (frame_or_nothing frame.now) out.new result) × (result ≤ at + 310) }
+pub fn frame_or_nothing(page: &mut Page, frame: &[u8])
+    requires { Room page.old 310 }
+    ensures { Writes page.old (frame_or_nothing frame.now) 310 page.new }
 {
-    if frame.len() == 0 {
-        return spelling::say(out, at, b"no frame");
+    if frame.is_empty() {
+        page.say(b"no frame");
+    } else {
+        frame_words(page, frame);
     }
-    frame_words(out, at, frame)
 }
 
 // The message that a confirmation answers.
-pub fn answered(out: &mut [u8], at: usize, frame: &[u8]) -> usize
-    requires { at + 23 ≤ length out.old }
-    ensures { (Put out.old at (answered_words frame.now) out.new result) × (result ≤ at + 23) }
+pub fn answered(page: &mut Page, frame: &[u8])
+    requires { Room page.old 23 }
+    ensures { Writes page.old (answered_words frame.now) 23 page.new }
 {
-    let reading = frame::read(frame);
-    match reading {
-        Reading::Whole {
-            header,
-            extensions: _,
-        } => {
-            let field = header.reference;
-            number_at(out, at, b" of message ", frame, field)
-        }
-        Reading::Faulty(_) => at,
+    if let Ok(whole) = frame::read(frame) {
+        number_at(page, b" of message ", frame, whole.header.reference);
     }
 }

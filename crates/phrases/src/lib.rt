@@ -1,4 +1,4 @@
-// Words for what a frame, terms and 01's numbers say, put into a lent buffer. Each function asks for the room of its longest answer.
+// Words for what a frame, terms and 01's numbers say, written on a page. Each function asks for the room of its longest answer.
 #![tactic(auto)]
 
 pub mod frames;

@@ -1,170 +1,145 @@
 // The words for 01's numbers.
-ghost use Rattle.std.specs.Prelude.{◌≤◌, ◌+◌, length};
-ghost use Rattle.octets.specs.Put.{Put};
+ghost use Rattle.std.specs.Prelude.{◌≡◌, ◌≤◌, length};
+ghost use Rattle.phrases.specs.Page.{Room, Writes};
 ghost use Rattle.phrases.specs.Tables.{shot_words, confirmation_words, rer_words, terms_words, accepted_words, delivery_words, fault_meaning, reason_meaning, reason_words, refusal_meaning, state_name};
 
-use crate::spelling;
+use crate::spelling::Page;
 use book::Terms;
 
-pub(crate) fn shot(out: &mut [u8], at: usize, maintained: bool) -> usize
-    requires { at + 10 ≤ length out.old }
-    ensures { (Put out.old at (shot_words maintained) out.new result) × (result ≤ at + 10) }
+pub(crate) fn shot(maintained: bool) -> &'static [u8]
+    ensures words { result.now ≡ shot_words maintained }
+    ensures short { length result.now ≤ 10 }
 {
-    if maintained {
-        return spelling::say(out, at, b"maintained");
-    }
-    spelling::say(out, at, b"single")
+    if maintained { b"maintained" } else { b"single" }
 }
 
-pub(crate) fn confirmation(out: &mut [u8], at: usize, n: u8) -> usize
-    requires { at + 18 ≤ length out.old }
-    ensures { (Put out.old at (confirmation_words n) out.new result) × (result ≤ at + 18) }
+#[tactic(auto, unfolding(crate::specs::Tables::confirmation_words))]
+pub(crate) fn confirmation(n: u8) -> &'static [u8]
+    ensures words { result.now ≡ confirmation_words n }
+    ensures short { length result.now ≤ 18 }
 {
     match n {
-        0 => spelling::say(out, at, b", unconfirmedReq"),
-        1 => spelling::say(out, at, b", confirmedReq"),
-        2 => spelling::say(out, at, b", confirmedOk"),
-        3 => spelling::say(out, at, b", confirmedNotOk"),
-        _ => spelling::say(out, at, b", confirmedUnknown"),
+        0 => b", unconfirmedReq",
+        1 => b", confirmedReq",
+        2 => b", confirmedOk",
+        3 => b", confirmedNotOk",
+        _ => b", confirmedUnknown",
     }
 }
 
-fn rer(out: &mut [u8], at: usize, n: u8) -> usize
-    requires { at + 12 ≤ length out.old }
-    ensures { (Put out.old at (rer_words n) out.new result) × (result ≤ at + 12) }
+#[tactic(auto, unfolding(crate::specs::Tables::rer_words))]
+fn rer(n: u8) -> &'static [u8]
+    ensures words { result.now ≡ rer_words n }
+    ensures short { length result.now ≤ 12 }
 {
     match n {
-        0 => spelling::say(out, at, b"not provided"),
-        1 => spelling::say(out, at, b"low"),
-        _ => spelling::say(out, at, b"high"),
+        0 => b"not provided",
+        1 => b"low",
+        _ => b"high",
     }
 }
 
-pub fn terms(out: &mut [u8], at: usize, t: Terms) -> usize
-    requires { at + 61 ≤ length out.old }
-    ensures { (Put out.old at (terms_words t) out.new result) × (result ≤ at + 61) }
+pub fn terms(page: &mut Page, t: Terms)
+    requires { Room page.old 61 }
+    ensures { Writes page.old (terms_words t) 61 page.new }
 {
-    let a = spelling::say(out, at, b"class ");
-    let b = spelling::octet(out, a, t.class);
-    let c = spelling::say(out, b, b", priority ");
-    let d = spelling::octet(out, c, t.priority);
-    let e = spelling::say(out, d, b", residual error rate ");
-    rer(out, e, t.rer)
+    page.say(b"class ");
+    page.number(usize::from(t.class));
+    page.say(b", priority ");
+    page.number(usize::from(t.priority));
+    page.say(b", residual error rate ");
+    page.say(rer(t.rer));
 }
 
-pub fn accepted(out: &mut [u8], at: usize, yes: bool) -> usize
-    requires { at + 8 ≤ length out.old }
-    ensures { (Put out.old at (accepted_words yes) out.new result) × (result ≤ at + 8) }
+pub fn accepted(yes: bool) -> &'static [u8]
+    ensures words { result.now ≡ accepted_words yes }
+    ensures short { length result.now ≤ 8 }
 {
-    if yes {
-        return spelling::say(out, at, b"accepted");
-    }
-    spelling::say(out, at, b"rejected")
+    if yes { b"accepted" } else { b"rejected" }
 }
 
-pub fn delivery(out: &mut [u8], at: usize, n: u8) -> usize
-    requires { at + 43 ≤ length out.old }
-    ensures { (Put out.old at (delivery_words n) out.new result) × (result ≤ at + 43) }
+#[tactic(auto, unfolding(crate::specs::Tables::delivery_words))]
+pub fn delivery(n: u8) -> &'static [u8]
+    ensures words { result.now ≡ delivery_words n }
+    ensures short { length result.now ≤ 43 }
 {
     match n {
-        0 => spelling::say(out, at, b"Successful delivery"),
-        1 => spelling::say(out, at, b"Delivery failed"),
-        _ => spelling::say(out, at, b"Service problem - delivery status uncertain"),
+        0 => b"Successful delivery",
+        1 => b"Delivery failed",
+        _ => b"Service problem - delivery status uncertain",
     }
 }
 
-pub(crate) fn fault_meaning(out: &mut [u8], at: usize, n: u8) -> usize
-    requires { at + 52 ≤ length out.old }
-    ensures { (Put out.old at (fault_meaning n) out.new result) × (result ≤ at + 52) }
+#[tactic(auto, unfolding(crate::specs::Tables::fault_meaning))]
+pub(crate) fn fault_meaning(n: u8) -> &'static [u8]
+    ensures words { result.now ≡ fault_meaning n }
+    ensures short { length result.now ≤ 52 }
 {
     match n {
-        11 => spelling::say(out, at, b"over 1,024 octets"),
-        12 => spelling::say(out, at, b"ends before a field is complete"),
-        13 => spelling::say(
-            out,
-            at,
-            b"bit 1 of octet 0 set, confirmation above 4, or tag 0",
-        ),
-        14 => spelling::say(
-            out,
-            at,
-            b"sender length 0 or above 32, data length above 512",
-        ),
-        15 => spelling::say(out, at, b"a needed field is absent"),
-        _ => spelling::say(out, at, b"octets left over with bit 7 clear"),
+        11 => b"over 1,024 octets",
+        12 => b"ends before a field is complete",
+        13 => b"bit 1 of octet 0 set, confirmation above 4, or tag 0",
+        14 => b"sender length 0 or above 32, data length above 512",
+        15 => b"a needed field is absent",
+        _ => b"octets left over with bit 7 clear",
     }
 }
 
-fn reason_meaning(out: &mut [u8], at: usize, n: u8) -> usize
-    requires { at + 52 ≤ length out.old }
-    ensures { (Put out.old at (reason_meaning n) out.new result) × (result ≤ at + 52) }
+#[tactic(auto, unfolding(crate::specs::Tables::reason_meaning))]
+fn reason_meaning(n: u8) -> &'static [u8]
+    ensures words { result.now ≡ reason_meaning n }
+    ensures short { length result.now ≤ 52 }
 {
     match n {
-        0 => spelling::say(out, at, b"peer abort"),
-        1 => spelling::say(out, at, b"provider abort"),
-        2 => spelling::say(out, at, b"timer"),
-        3 => spelling::say(out, at, b"rejected"),
-        10 => spelling::say(out, at, b"frame not expected"),
-        _ => fault_meaning(out, at, n),
+        0 => b"peer abort",
+        1 => b"provider abort",
+        2 => b"timer",
+        3 => b"rejected",
+        10 => b"frame not expected",
+        _ => fault_meaning(n),
     }
 }
 
-pub fn reason(out: &mut [u8], at: usize, n: u8) -> usize
-    requires { at + 66 ≤ length out.old }
-    ensures { (Put out.old at (reason_words n) out.new result) × (result ≤ at + 66) }
+pub fn reason(page: &mut Page, n: u8)
+    requires { Room page.old 66 }
+    ensures { Writes page.old (reason_words n) 66 page.new }
 {
-    let a = spelling::say(out, at, b"reason ");
-    let b = spelling::octet(out, a, n);
-    let c = spelling::say(out, b, b": ");
-    reason_meaning(out, c, n)
+    page.say(b"reason ");
+    page.number(usize::from(n));
+    page.say(b": ");
+    page.say(reason_meaning(n));
 }
 
-pub fn refusal_meaning(out: &mut [u8], at: usize, n: u8) -> usize
-    requires { at + 110 ≤ length out.old }
-    ensures { (Put out.old at (refusal_meaning n) out.new result) × (result ≤ at + 110) }
+#[tactic(auto, unfolding(crate::specs::Tables::refusal_meaning))]
+pub fn refusal_meaning(n: u8) -> &'static [u8]
+    ensures words { result.now ≡ refusal_meaning n }
+    ensures short { length result.now ≤ 110 }
 {
     match n {
-        1 => spelling::say(out, at, b"the state does not take this event"),
-        2 => spelling::say(
-            out,
-            at,
+        1 => b"the state does not take this event",
+        2 =>
             b"the frame has a fault or extensions, or its confirmation does not fit the kind of transfer",
-        ),
-        3 => spelling::say(
-            out,
-            at,
-            b"a multi-shot request in Associated has terms other than the dialogue's",
-        ),
-        4 => spelling::say(
-            out,
-            at,
-            b"the identifier of this confirmed transfer is already waiting",
-        ),
-        5 => spelling::say(
-            out,
-            at,
-            b"a confirmed transfer while eight identifiers are waiting",
-        ),
-        6 => spelling::say(out, at, b"the lent buffer has fewer than 1,024 octets"),
-        7 => spelling::say(out, at, b"setup is outside its limits"),
-        8 => spelling::say(
-            out,
-            at,
+        3 => b"a multi-shot request in Associated has terms other than the dialogue's",
+        4 => b"the identifier of this confirmed transfer is already waiting",
+        5 => b"a confirmed transfer while eight identifiers are waiting",
+        6 => b"the lent buffer has fewer than 1,024 octets",
+        7 => b"setup is outside its limits",
+        8 =>
             b"no event: kind unknown, body too short or too long, result or RER out of range, or no line of digits",
-        ),
-        _ => spelling::say(out, at, b"the unit handed in is not sound"),
+        _ => b"the unit handed in is not sound",
     }
 }
 
-pub fn state_name(out: &mut [u8], at: usize, n: u8) -> usize
-    requires { at + 12 ≤ length out.old }
-    ensures { (Put out.old at (state_name n) out.new result) × (result ≤ at + 12) }
+#[tactic(auto, unfolding(crate::specs::Tables::state_name))]
+pub fn state_name(n: u8) -> &'static [u8]
+    ensures words { result.now ≡ state_name n }
+    ensures short { length result.now ≤ 12 }
 {
     match n {
-        0 => spelling::say(out, at, b"Idle"),
-        1 => spelling::say(out, at, b"Start-single"),
-        2 => spelling::say(out, at, b"Start-multi"),
-        3 => spelling::say(out, at, b"Ending"),
-        _ => spelling::say(out, at, b"Associated"),
+        0 => b"Idle",
+        1 => b"Start-single",
+        2 => b"Start-multi",
+        3 => b"Ending",
+        _ => b"Associated",
     }
 }

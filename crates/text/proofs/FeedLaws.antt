@@ -1,34 +1,33 @@
 -- Laws of a line and its line feed: no line feed stands among the pairs of digits at the front, so they are the line's own. Closed by induction on
 -- the characters, two at a time, and by the count of the pairs.
-use Rattle.std.specs.Prelude.{None, Some}
+use Rattle.std.specs.Prelude.{None, Option, Some, cond, min, ◌&&◌}
 use Prim.Native.Nat.{ℕ, zero, suc, ◌+◌, ◌*◌, ◌<◌, ◌≤◌}
-use mathlib.Core.Path.{◌≡◌, refl, sym, subst, ◌∙◌}
+use mathlib.Core.Path.{◌≡◌, refl, sym, ◌∙◌}
 use mathlib.Core.Bool.{Bool, true, false}
 use mathlib.Core.List.{List, [], ◌∷◌}
 use native.Mathlib.Omega.{arith}
-use borrow.Author.Tests.{eqb-true, eq-eqb, le-leb, le-ltb, lt-ltb, ltb-true, leb-true}
-use lib.Dec.{T, eqb, ltb, leb}
+use borrow.Author.Tests.{eqb-true, eqb-false, eq-eqb, le-leb, le-ltb, lt-ltb, ltb-true, ltb-false, leb-true}
+use lib.Dec.{eqb, ltb, leb}
 use lib.ListN.{length, take, drop}
 use lib.Seq.{length-take-le}
 use Rattle.octets.specs.Choice.{pick, both}
-use Rattle.text.specs.Digits.{value_of}
-use Rattle.text.specs.Reading.{least, digits, leading, to_feed, feed_from, event_in, said, line_in}
-use Rattle.text.specs.declared.Line.TheVariants.{Octets, Refused, Open}
-use Rattle.text.proofs.LineLaws.{least_second, least_under, least_within}
+use Rattle.text.specs.Digits.{value_of, octet_of}
+use Rattle.text.specs.Reading.{led, leading, to_feed, feed_from, event_in, said, line_in}
+use Rattle.text.proofs.LineLaws.{feed_within}
 
 -- ---- a line feed is no digit
 
-feed_first : (a b : ℕ) → true ≡ eqb a 10 → digits a b ≡ false
-unfolding digits value_of
+feed_first : (a b : ℕ) → true ≡ eqb a 10 → octet_of (value_of a) (value_of b) ≡ None
+unfolding value_of
 feed_first a b e = let h : a ≡ 10 = eqb-true a 10 (sym e) in rw h
 
-feed_second : (a b : ℕ) → true ≡ eqb b 10 → digits a b ≡ false
-unfolding digits value_of
-feed_second a b e = let h : b ≡ 10 = eqb-true b 10 (sym e) in rw h (never (ltb (value_of a) 16))
+feed_second : (a b : ℕ) → true ≡ eqb b 10 → octet_of (value_of a) (value_of b) ≡ None
+unfolding value_of
+feed_second a b e = let h : b ≡ 10 = eqb-true b 10 (sym e) in rw h (never (value_of a))
   where
-    never : (t : Bool) → both t false ≡ false
-    never true = refl
-    never false = refl
+    never : (o : Option ℕ) → octet_of o None ≡ None
+    never None = refl
+    never (Some x) = refl
 
 -- ---- the pairs at the front are the line's
 
@@ -43,7 +42,7 @@ leading_cut (a ∷ []) = go (eqb a 10)
 leading_cut (a ∷ (b ∷ s)) = go (leading_cut s) (eqb a 10) (eqb b 10) refl refl
   where
     go : leading (take (to_feed s) s) ≡ leading s → (x y : Bool) → x ≡ eqb a 10 → y ≡ eqb b 10
-        → leading (take (pick x 0 (suc (pick y 0 (suc (to_feed s))))) (a ∷ (b ∷ s))) ≡ pick (digits a b) ((16 * value_of a + value_of b) ∷ leading s) []
+        → leading (take (pick x 0 (suc (pick y 0 (suc (to_feed s))))) (a ∷ (b ∷ s))) ≡ led (octet_of (value_of a) (value_of b)) (leading s)
     go e true y p q = rw (feed_first a b p)
     go e false true p q = rw (feed_second a b q)
     go e false false p q = rw e
@@ -52,14 +51,14 @@ pub leading_fed : (s : List ℕ) → 2 * length (leading s) ≤ to_feed s
 unfolding leading to_feed
 leading_fed [] = omega arith
 leading_fed (a ∷ []) = omega arith
-leading_fed (a ∷ (b ∷ s)) = go (leading_fed s) (eqb a 10) (eqb b 10) (digits a b) refl refl refl
+leading_fed (a ∷ (b ∷ s)) = go (leading_fed s) (eqb a 10) (eqb b 10) (octet_of (value_of a) (value_of b)) refl refl refl
   where
-    go : 2 * length (leading s) ≤ to_feed s → (x y d : Bool) → x ≡ eqb a 10 → y ≡ eqb b 10 → d ≡ digits a b
-        → 2 * length (pick d ((16 * value_of a + value_of b) ∷ leading s) []) ≤ pick x 0 (suc (pick y 0 (suc (to_feed s))))
-    go h x y false p q r = omega arith
-    go h true y true p q r = absurd (subst T (r ∙ feed_first a b p) tt)
-    go h false true true p q r = absurd (subst T (r ∙ feed_second a b q) tt)
-    go h false false true p q r = omega arith
+    go : 2 * length (leading s) ≤ to_feed s → (x y : Bool) (o : Option ℕ) → x ≡ eqb a 10 → y ≡ eqb b 10 → o ≡ octet_of (value_of a) (value_of b)
+        → 2 * length (led o (leading s)) ≤ pick x 0 (suc (pick y 0 (suc (to_feed s))))
+    go h x y None p q r = omega arith
+    go h true y (Some c) p q r = let e = r ∙ feed_first a b p in let z : ◌≡◌ {A = ℕ} 0 1 = cc in absurd (omega arith)
+    go h false true (Some c) p q r = let e = r ∙ feed_second a b q in let z : ◌≡◌ {A = ℕ} 0 1 = cc in absurd (omega arith)
+    go h false false (Some c) p q r = omega arith
 
 pub fed_from : (j : ℕ) (s : List ℕ) → j ≤ to_feed s → j + to_feed (drop j s) ≡ to_feed s
 unfolding to_feed
@@ -71,26 +70,11 @@ fed_from (suc j) (c ∷ s) h = go (fed_from j s) (eqb c 10) h
     go f true k = absurd (omega arith)
     go f false k = let e = f (omega arith) in omega arith
 
-pub fed_within : (s : List ℕ) → to_feed s ≤ length s
-unfolding to_feed
-fed_within [] = omega arith
-fed_within (c ∷ s) = go (fed_within s) (eqb c 10)
-  where
-    go : to_feed s ≤ length s → (x : Bool) → pick x 0 (suc (to_feed s)) ≤ suc (length s)
-    go h true = omega arith
-    go h false = omega arith
-
 -- ---- the answer
 
-pub short : (cap k n : ℕ) → cap ≡ 2048 → n ≡ least cap k → n ≤ 2048
-short cap k n full given = omega (arith, full, given, least_within cap k)
-
-module _ (s : List ℕ) (cap n end : ℕ) (full : cap ≡ 2048) (given : n ≡ least cap (length (leading s))) (place : end ≡ feed_from s (2 * n)) where
-  count : n ≡ least 2048 (length (leading s))
-  count = rw full at given
-
+module _ (s : List ℕ) (cap n end : ℕ) (full : cap ≡ 2048) (given : n ≡ min cap (length (leading s))) (place : end ≡ feed_from s (2 * n)) where
   few : n ≤ length (leading s)
-  few = omega (arith, count, least_under 2048 (length (leading s)))
+  few = omega arith
 
   fed : end ≡ to_feed s
   unfolding feed_from
@@ -98,9 +82,9 @@ module _ (s : List ℕ) (cap n end : ℕ) (full : cap ≡ 2048) (given : n ≡ l
 
   -- the line's length, and how many octets its pairs are
   long : length (take (to_feed s) s) ≡ to_feed s
-  long = length-take-le (to_feed s) s (fed_within s)
+  long = length-take-le (to_feed s) s (feed_within s)
 
-  pub line_open : length s ≤ end → Open ≡ line_in s
+  pub line_open : length s ≤ end → None ≡ line_in s
   unfolding line_in
   line_open h = rw (le-ltb (to_feed s) (length s) (omega (arith, fed)))
 
@@ -115,7 +99,7 @@ module _ (s : List ℕ) (cap n end : ℕ) (full : cap ≡ 2048) (given : n ≡ l
         leading_cut s,
         long,
         lt-ltb 0 (to_feed s) (omega (arith, fed)),
-        le-leb (to_feed s) 4096 (omega (arith, fed, short cap (length (leading s)) n full given)),
+        le-leb (to_feed s) 4096 (omega (arith, fed)),
         eq-eqb (2 * length (leading s)) (to_feed s) (omega (arith, fed)),
       )
 
@@ -128,7 +112,7 @@ module _ (s : List ℕ) (cap n end : ℕ) (full : cap ≡ 2048) (given : n ≡ l
 
       none_of : 0 < k → k ≤ 4096 → 2 * length (leading s) ≡ k → ⊥
       none_of x y z =
-          let m : n ≡ length (leading s) = count ∙ sym (least_second 2048 (length (leading s)) (omega arith)) in
+          let m : n ≡ length (leading s) = omega arith in
           let w = h (omega (arith, fed)) in
           omega arith
 
@@ -140,10 +124,15 @@ module _ (s : List ℕ) (cap n end : ℕ) (full : cap ≡ 2048) (given : n ≡ l
       go true p true q true r =
           absurd (none_of (ltb-true 0 k (sym p)) (leb-true k 4096 (sym q)) (eqb-true (2 * length (leading s)) k (sym r)))
 
-  pub line_octets : end < length s → end ≡ 2 * n → 0 < n → Octets n (end + 1) ≡ line_in s
-  unfolding line_in said
-  line_octets h e k = rw (lt-ltb (to_feed s) (length s) (omega (arith, fed)), said_octets e k, ← fed, ← all e)
-
-  pub line_refused : end < length s → (end ≡ 2 * n → n ≡ 0) → Refused (end + 1) ≡ line_in s
-  unfolding line_in said
-  line_refused h k = rw (lt-ltb (to_feed s) (length s) (omega (arith, fed)), said_none k, fed)
+  pub line_ended : end < length s → (o : Option ℕ) → o ≡ cond (ltb 0 n && eqb end (2 * n)) (Some n) None → Some (record { octets = o; next = end + 1 }) ≡ line_in s
+  unfolding line_in
+  line_ended h o e = rw (lt-ltb (to_feed s) (length s) (omega (arith, fed)), e) (go (ltb 0 n) refl (eqb end (2 * n)) refl)
+    where
+      go : (x : Bool) → x ≡ ltb 0 n → (y : Bool) → y ≡ eqb end (2 * n)
+          → Some (record { octets = cond (x && y) (Some n) None; next = end + 1 }) ≡ Some (said (event_in (take (to_feed s) s)) (to_feed s + 1))
+      go true p true q =
+          let k = ltb-true 0 n (sym p) in
+          let z = eqb-true end (2 * n) (sym q) in
+          rw (said_octets z k, ← fed, ← all z)
+      go true p false q = let z = eqb-false end (2 * n) (sym q) in rw (said_none (λ e. absurd (z e)), fed)
+      go false p y q = let k = ltb-false 0 n (sym p) in rw (said_none (λ e. omega arith), fed)

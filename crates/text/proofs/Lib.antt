@@ -4,3 +4,4 @@ pub mod PrintLaws
 pub mod RoundTrip
 pub mod OneResult
 pub mod Found
+pub mod HearingLaws

@@ -1,41 +1,18 @@
 -- Laws of a printed line: its room, its length, and the loop that writes its digits. Closed by induction on the octets.
-use Prim.Native.Nat.{ℕ, suc, ◌+◌, ◌-◌, ◌*◌, ◌/◌, ◌%◌, ◌<◌, ◌≤◌}
+use Prim.Native.Nat.{ℕ, suc, ◌+◌, ◌*◌, ◌/◌, ◌%◌, ◌<◌, ◌≤◌}
 use mathlib.Core.Path.{◌≡◌, refl, sym}
-use mathlib.Core.Bool.{Bool, true, false}
+use mathlib.Core.Bool.{true, false}
 use mathlib.Core.List.{List, [], ◌∷◌}
 use native.Mathlib.Numerals.{add-one}
 use native.Mathlib.Nat.{add-zero}
 use native.Mathlib.Omega.{arith}
-use borrow.Author.Tests.{le-leb, lt-leb, le-ltb, lt-ltb, leb-true, leb-false}
-use lib.Dec.{leb}
+use borrow.Author.Tests.{leb-true}
 use lib.ListN.{length, drop, get_or, set, length-append, drop_of_length-le}
 use lib.Seq.{drop-cons, sets}
 use Rattle.octets.proofs.Puts.{sets-append}
 use Rattle.text.specs.Printing.{digit_of, digits_of, printed, fits, printed_in}
 
--- ---- a digit
-
-pub digit_9 : (v : ℕ) → v < 10 → 48 + v ≡ digit_of v
-unfolding digit_of
-digit_9 v h = rw (lt-ltb v 10 h)
-
-pub digit_f : (v : ℕ) → 10 ≤ v → 87 + v ≡ digit_of v
-unfolding digit_of
-digit_f v h = rw (le-ltb v 10 h)
-
 -- ---- room
-
-pub no_room : (room at n : ℕ) → room ≤ at → false ≡ fits room at n
-unfolding fits
-no_room room at n h = rw (lt-leb (at + (2 * n + 1)) room (omega arith))
-
-pub room_is : (room at n k : ℕ) → at < room → 2 * k ≤ room - at - 1 → room - at - 1 ≤ 2 * k + 1 → leb n k ≡ fits room at n
-unfolding fits
-room_is room at n k h a b = go (leb n k) refl
-  where
-    go : (t : Bool) → t ≡ leb n k → t ≡ leb (at + (2 * n + 1)) room
-    go true e = let l = leb-true n k (sym e) in sym (le-leb (at + (2 * n + 1)) room (omega arith))
-    go false e = let l = leb-false n k (sym e) in sym (lt-leb (at + (2 * n + 1)) room (omega arith))
 
 pub fits_in : (room at n : ℕ) → fits room at n ≡ true → at + 2 * n < room
 unfolding fits

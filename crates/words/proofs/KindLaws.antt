@@ -1,127 +1,50 @@
--- Laws of a line by its kind, and of a choice that a test makes. Closed by `rw` with the tests.
-use Prim.Native.Nat.{ℕ}
-use mathlib.Core.Path.{◌≡◌}
+-- Laws of a line by its kind: what is said of what was read, and of a setup. Closed by `rw` with it.
+use Prim.Native.Nat.{ℕ, ◌-◌, ◌<◌}
+use mathlib.Core.Path.{◌≡◌, refl, ap, sym, ◌∙◌}
 use mathlib.Core.Bool.{Bool, true, false}
 use mathlib.Core.List.{List, ◌++◌}
-use borrow.Author.Tests.{eq-eqb, ne_eqb}
-use lib.Dec.{eqb}
-use lib.ListN.{length, drop, get_or}
-use Rattle.octets.specs.Put.{Put}
-use Rattle.book.specs.Events.{event_of, terms_in}
+use native.Mathlib.Omega.{arith}
+use lib.Dec.{ltb}
+use lib.ListN.{length, take, drop, length-drop, drop_of_length-le}
+use lib.Seq.{take_all}
+use Rattle.octets.specs.Choice.{pick, both}
+use Rattle.book.specs.Sound.{within_limits}
+use Rattle.phrases.specs.Spelling.{spelled, beginning}
+use Rattle.book.specs.Events.{event_of}
 use Rattle.book.specs.declared.Event.{Event}
-use Rattle.phrases.specs.Spelling.{spelled, decimal, beginning}
-use Rattle.phrases.specs.Tables.{reason_words, refusal_meaning, state_name}
-use Rattle.words.specs.Lines.{none_words, wrong_body, two, with_terms, with_start, with_reply, with_result, is_setup, limits_words, setup_words, is_termed, is_pair, is_led, is_reasoned, out_alone, out_termed, out_start, delivery_line, out_delivery, out_reason, out_seen, out_reply, out_end, out_state, out_refused, event_words, input_words, kind_words, line_words}
+use Rattle.words.specs.declared.outputs.Output.{Output}
+use Rattle.words.specs.Lines.{two, none_words, is_setup, limits_words, setup_words, event_words, input_words, output_of, output_words, line_words}
 
--- ---- a test, and what is said by its answer
+pub event_said : (s : List ℕ) {r e : Event} → r ≡ event_of s → r ≡ e → event_words s e ≡ input_words s
+unfolding input_words
+event_said s p q = ap (event_words s) (sym q ∙ p)
+
+pub output_said : (s : List ℕ) {r o : Output} → r ≡ output_of s → r ≡ o → output_words s o ≡ line_words s
+unfolding line_words
+output_said s p q = ap (output_words s) (sym q ∙ p)
+
+-- ---- a setup
 
 module _ (s : List ℕ) where
-  pub setup_yes : {r : Bool} → r ≡ is_setup s → r ≡ true → limits_words s ++ spelled " ticks; name " ++ beginning (drop 7 s) ≡ setup_words s
-  unfolding setup_words
-  setup_yes p e = rw (← p, e)
+  pub setup_short : length s < 7 → none_words 7 ≡ setup_words s
+  unfolding setup_words is_setup within_limits
+  setup_short h = rw (drop_of_length-le s {i = 7} (omega arith)) (never _ (ltb 0 (two s 1)) (ltb 0 (two s 3)) (ltb 0 (two s 5)))
+    where
+      never : (x : List ℕ) (a b c : Bool) → none_words 7 ≡ pick (both a (both b (both c false))) x (none_words 7)
+      never x true true true = refl
+      never x true true false = refl
+      never x true false c = refl
+      never x false b c = refl
 
-  pub setup_no : {r : Bool} → r ≡ is_setup s → r ≡ false → none_words 7 ≡ setup_words s
-  unfolding setup_words
-  setup_no p e = rw (← p, e)
+  module _ {name : List ℕ} (n : name ≡ take (length s - 7) (drop 7 s)) {start end inactivity : ℕ} (p : start ≡ two s 1) (q : end ≡ two s 3) (r : inactivity ≡ two s 5)
+      {w : Bool} (e : w ≡ within_limits start end inactivity (length name)) where
+    named : name ≡ drop 7 s
+    named = n ∙ take_all (length s - 7) (drop 7 s) (omega (arith, length-drop 7 s))
 
-  pub termed_yes : (w : List ℕ) → {r : Bool} → r ≡ is_termed s → r ≡ true → with_terms w (terms_in s) s ≡ out_termed w s
-  unfolding out_termed
-  termed_yes w p e = rw (← p, e)
+    pub setup_yes : w ≡ true → limits_words start end inactivity ++ spelled " ticks; name " ++ beginning name ≡ setup_words s
+    unfolding setup_words is_setup
+    setup_yes h = let k : within_limits start end inactivity (length name) ≡ true = sym e ∙ h in rw (← p, ← q, ← r, ← named, k)
 
-  pub termed_no : (w : List ℕ) → {r : Bool} → r ≡ is_termed s → r ≡ false → wrong_body ≡ out_termed w s
-  unfolding out_termed
-  termed_no w p e = rw (← p, e)
-
-  pub start_yes : {r : Bool} → r ≡ is_termed s → r ≡ true → with_start (spelled "out: D-START request; ") (terms_in s) s ≡ out_start s
-  unfolding out_start
-  start_yes p e = rw (← p, e)
-
-  pub start_no : {r : Bool} → r ≡ is_termed s → r ≡ false → wrong_body ≡ out_start s
-  unfolding out_start
-  start_no p e = rw (← p, e)
-
-  pub delivery_yes : {r : Bool} → r ≡ is_led 2 s → r ≡ true → delivery_line s ≡ out_delivery s
-  unfolding out_delivery
-  delivery_yes p e = rw (← p, e)
-
-  pub delivery_no : {r : Bool} → r ≡ is_led 2 s → r ≡ false → wrong_body ≡ out_delivery s
-  unfolding out_delivery
-  delivery_no p e = rw (← p, e)
-
-  pub reason_yes : (w : List ℕ) → {r : Bool} → r ≡ is_reasoned s → r ≡ true → w ++ reason_words (get_or s 1 0) ≡ out_reason w s
-  unfolding out_reason
-  reason_yes w p e = rw (← p, e)
-
-  pub reason_no : (w : List ℕ) → {r : Bool} → r ≡ is_reasoned s → r ≡ false → wrong_body ≡ out_reason w s
-  unfolding out_reason
-  reason_no w p e = rw (← p, e)
-
-  pub reply_yes : {r : Bool} → r ≡ is_led 1 s → r ≡ true → with_reply (spelled "out: D-START response; ") (eqb (get_or s 1 0) 0) s ≡ out_reply s
-  unfolding out_reply
-  reply_yes p e = rw (← p, e)
-
-  pub reply_no : {r : Bool} → r ≡ is_led 1 s → r ≡ false → wrong_body ≡ out_reply s
-  unfolding out_reply
-  reply_no p e = rw (← p, e)
-
-  pub end_yes : {r : Bool} → r ≡ is_pair 0 1 s → r ≡ true → with_result (spelled "out: D-END response; ") (eqb (get_or s 1 0) 0) ≡ out_end s
-  unfolding out_end
-  end_yes p e = rw (← p, e)
-
-  pub end_no : {r : Bool} → r ≡ is_pair 0 1 s → r ≡ false → wrong_body ≡ out_end s
-  unfolding out_end
-  end_no p e = rw (← p, e)
-
-  pub state_yes : {r : Bool} → r ≡ is_pair 0 4 s → r ≡ true → spelled "state: " ++ state_name (get_or s 1 0) ≡ out_state s
-  unfolding out_state
-  state_yes p e = rw (← p, e)
-
-  pub state_no : {r : Bool} → r ≡ is_pair 0 4 s → r ≡ false → wrong_body ≡ out_state s
-  unfolding out_state
-  state_no p e = rw (← p, e)
-
-  pub refused_yes : {r : Bool} → r ≡ is_pair 1 9 s → r ≡ true → spelled "refused, " ++ decimal (get_or s 1 0) ++ spelled ": " ++ refusal_meaning (get_or s 1 0) ≡ out_refused s
-  unfolding out_refused
-  refused_yes p e = rw (← p, e)
-
-  pub refused_no : {r : Bool} → r ≡ is_pair 1 9 s → r ≡ false → wrong_body ≡ out_refused s
-  unfolding out_refused
-  refused_no p e = rw (← p, e)
-
-  pub alone_yes : (w : List ℕ) → length s ≡ 1 → w ≡ out_alone w s
-  unfolding out_alone
-  alone_yes w e = rw (eq-eqb (length s) 1 e)
-
-  pub alone_no : (w : List ℕ) → (length s ≡ 1 → ⊥) → wrong_body ≡ out_alone w s
-  unfolding out_alone
-  alone_no w e = rw (ne_eqb (length s) 1 e)
-
-  pub seen_yes : length s ≡ 3 → spelled "out: extension fields seen: " ++ decimal (two s 1) ≡ out_seen s
-  unfolding out_seen
-  seen_yes e = rw (eq-eqb (length s) 3 e)
-
-  pub seen_no : (length s ≡ 3 → ⊥) → wrong_body ≡ out_seen s
-  unfolding out_seen
-  seen_no e = rw (ne_eqb (length s) 3 e)
-
--- ---- an event
-
-pub event_said : (s : List ℕ) {r : Event} (e : Event) → r ≡ event_of s → r ≡ e → {b b1 : List ℕ} {i j : ℕ} → Put b i (event_words s e) b1 j → Put b i (input_words s) b1 j
-unfolding input_words
-event_said s e p q w = rw (← p, q) w
-
--- ---- a kind
-
-module _ (s : List ℕ) {k : ℕ} (p : k ≡ get_or s 0 0) where
-  pub kind_said : (n : ℕ) → k ≡ n → {b b1 : List ℕ} {i j : ℕ} → Put b i (kind_words n s) b1 j → Put b i (line_words s) b1 j
-  unfolding line_words
-  kind_said n e w = rw (← p, e) w
-
-  abbrev not : ℕ → Type 0
-  not n = k ≡ n → ⊥
-
-  pub kind_else : not 0x00 → not 0x20 → not 0x21 → not 0x22 → not 0x23 → not 0x24 → not 0x25 → not 0x30 → not 0x31 → not 0x32 → not 0x33 → not 0x34 → not 0x35
-      → not 0xf0 → not 0xff → input_words s ≡ line_words s
-  unfolding line_words kind_words
-  kind_else z a b c d e f g h i j l m n o =
-      rw (← p, ne_eqb k 0x00 z, ne_eqb k 0x20 a, ne_eqb k 0x21 b, ne_eqb k 0x22 c, ne_eqb k 0x23 d, ne_eqb k 0x24 e, ne_eqb k 0x25 f, ne_eqb k 0x30 g, ne_eqb k 0x31 h, ne_eqb k 0x32 i, ne_eqb k 0x33 j, ne_eqb k 0x34 l, ne_eqb k 0x35 m, ne_eqb k 0xf0 n, ne_eqb k 0xff o)
+    pub setup_no : w ≡ false → none_words 7 ≡ setup_words s
+    unfolding setup_words is_setup
+    setup_no h = let k : within_limits start end inactivity (length name) ≡ false = sym e ∙ h in rw (← p, ← q, ← r, ← named, k)

@@ -13,11 +13,13 @@ use lib.ListN.{length, take, drop, length-append, length-drop}
 use lib.Seq.{drop-drop, drop-length}
 use Rattle.octets.specs.Choice.{pick, both, either}
 use Rattle.text.specs.Reading.{leading, to_feed, event_in}
+use Rattle.text.specs.Hearing as Hearing
+use Rattle.text.specs.Hearing.{Standing, Taken, Feeding, resting, then}
+use Rattle.text.proofs.HearingLaws as Laws
+use Rattle.text.proofs.HearingLaws.{fed as ended, over, left}
 use Rattle.words.specs.Lines.{no_digits, begins, frame_word, explained}
-use Rattle.words.specs.Feeding.{fresh, line_text, explanation_from, explanation, Taken, line_taken, most, Feeding, resting, then, feeding, finishing}
+use Rattle.words.specs.Feeding.{fresh, standing, longest, answer, line_text, explanation_from, explanation, line_taken, most, feeding, finishing}
 use Rattle.words.specs.Runs.{Run, read, fed, finished}
-use Rattle.words.specs.declared.Reader.{Reader}
-use Rattle.words.proofs.FeedLaws.{How, ended, over, left, how}
 
 -- ---- what is still to come
 
@@ -31,8 +33,15 @@ coming m false i = explanation_from m [] i
 coming m true i = passed m i
 
 -- the output of a reader whose input is still to come
-abbrev pub whole : Reader → List ℕ → List ℕ
-whole s i = coming s.indented s.passing i
+abbrev pub whole : Standing Bool → List ℕ → List ℕ
+whole s i = coming s.state s.passing i
+
+-- the three ways of a line
+abbrev How : Standing Bool → List ℕ → Taken Bool → Type 0
+How = Laws.How longest answer
+
+how : (s : Standing Bool) (i : List ℕ) → How s i (line_taken s i)
+how = Laws.how longest answer
 
 -- ---- a line's end
 
@@ -121,36 +130,38 @@ long_passed m line (c ∷ more) h = go (long_passed m (line ++ (c ∷ [])) more)
 -- ---- one line
 
 -- what a line prints, and then what is still to come, is what was to come
-pub line_whole : (s : Reader) (i more : List ℕ) (t : Taken) → How s i t → whole s (i ++ more) ≡ t.text ++ whole t.reader (drop t.taken i ++ more)
+pub line_whole : (s : Standing Bool) (i more : List ℕ) (t : Taken Bool) → How s i t → whole s (i ++ more) ≡ t.text ++ whole t.reader (drop t.taken i ++ more)
 line_whole s i more t (ended h) = go s.passing refl
   where
     answered : Bool → List ℕ
-    answered p = line_text s.indented (pick p no_digits (explained (take (to_feed i) i))) ++ explanation_from s.indented [] (drop (to_feed i + 1) i ++ more)
+    answered p =
+        (answer s.state (pick p None (Some (take (to_feed i) i)))).text
+        ++ explanation_from (answer s.state (pick p None (Some (take (to_feed i) i)))).state [] (drop (to_feed i + 1) i ++ more)
 
-    go : (p : Bool) → p ≡ s.passing → coming s.indented s.passing (i ++ more) ≡ answered s.passing
-    go true e = rw (← e, over_split s.indented i more h)
-    go false e = rw (← e, split s.indented [] i more h)
+    go : (p : Bool) → p ≡ s.passing → coming s.state s.passing (i ++ more) ≡ answered s.passing
+    go true e = rw (← e, over_split s.state i more h)
+    go false e = rw (← e, split s.state [] i more h)
 line_whole s i more t (over h e) = go s.passing refl
   where
-    go : (p : Bool) → p ≡ s.passing → coming s.indented s.passing (i ++ more) ≡ passed s.indented (drop (length i) i ++ more)
-    go true q = rw (← q, drop-length i, over_joined s.indented i more h)
+    go : (p : Bool) → p ≡ s.passing → coming s.state s.passing (i ++ more) ≡ passed s.state (drop (length i) i ++ more)
+    go true q = rw (← q, drop-length i, over_joined s.state i more h)
     go false q =
         let l = ltb-true 4102 (length i) (rw (← q) at e) in
-        rw (← q, drop-length i, joined s.indented [] i more h, long_passed s.indented i more l)
+        rw (← q, drop-length i, joined s.state [] i more h, long_passed s.state i more l)
 line_whole s i more t (left h e k) = refl
 
 -- ---- all lines for which there is room
 
-feeding_whole : (n room : ℕ) (s : Reader) (i more : List ℕ)
+feeding_whole : (n room : ℕ) (s : Standing Bool) (i more : List ℕ)
     → whole s (i ++ more) ≡ (feeding n room s i).written ++ whole (feeding n room s i).reader (drop (feeding n room s i).taken i ++ more)
-unfolding feeding
+unfolding Hearing.feeding
 feeding_whole zero room s i more = refl
 feeding_whole (suc n) room s i more = go (ltb room most) (λ r. feeding_whole n r (line_taken s i).reader (drop (line_taken s i).taken i) more)
   where
-    t : Taken
+    t : Taken Bool
     t = line_taken s i
 
-    f : Feeding
+    f : Feeding Bool
     f = feeding n (room - length (line_taken s i).text) (line_taken s i).reader (drop (line_taken s i).taken i)
 
     go : (x : Bool) → ((r : ℕ) → whole t.reader (drop t.taken i ++ more)
@@ -166,75 +177,75 @@ feeding_whole (suc n) room s i more = go (ltb room most) (λ r. feeding_whole n 
 -- ---- the end
 
 -- what `finish` prints, where there is room
-abbrev last : Reader → (held : List ℕ) → List ℕ
-last s held = pick (either s.passing (ltb 0 (length held))) (line_text s.indented no_digits) []
+abbrev last : Standing Bool → (held : List ℕ) → List ℕ
+last s held = pick (either s.passing (ltb 0 (length held))) (line_text s.state no_digits) []
 
 -- a line that takes nothing is open, and is the last
-left_last : (s : Reader) (held : List ℕ) (t : Taken) → How s held t → t.taken ≡ 0 → whole s held ≡ last s held
+left_last : (s : Standing Bool) (held : List ℕ) (t : Taken Bool) → How s held t → t.taken ≡ 0 → whole s held ≡ last s held
 unfolding explanation_from
 left_last s held t (ended h) e = absurd (omega arith)
 left_last s [] t (over h o) e = go s.passing o
   where
-    go : (p : Bool) → either p (ltb 4102 0) ≡ true → coming s.indented p [] ≡ pick (either p (ltb 0 0)) (line_text s.indented no_digits) []
+    go : (p : Bool) → either p (ltb 4102 0) ≡ true → coming s.state p [] ≡ pick (either p (ltb 0 0)) (line_text s.state no_digits) []
     go true k = refl
     go false k = absurd (subst T (sym k) tt)
 left_last s (c ∷ held) t (over h o) e = absurd (omega arith)
 left_last s [] t (left h p k) e = rw p
 left_last s (c ∷ held) t (left h p k) e =
-    let j = joined s.indented [] (c ∷ held) [] h in
-    rw (p, lt-ltb 0 (suc (length held)) (omega arith)) (ap (explanation_from s.indented []) (sym (append-nil (c ∷ held))) ∙ j)
+    let j = joined s.state [] (c ∷ held) [] h in
+    rw (p, lt-ltb 0 (suc (length held)) (omega arith)) (ap (explanation_from s.state []) (sym (append-nil (c ∷ held))) ∙ j)
 
-none_last : (s : Reader) (held : List ℕ) (room : ℕ) → most ≤ room → (feeding (length held) room s held).taken ≡ 0 → whole s held ≡ last s held
-unfolding feeding explanation_from
+none_last : (s : Standing Bool) (held : List ℕ) (room : ℕ) → most ≤ room → (feeding (length held) room s held).taken ≡ 0 → whole s held ≡ last s held
+unfolding Hearing.feeding explanation_from
 none_last s [] room h e = go s.passing
   where
-    go : (p : Bool) → coming s.indented p [] ≡ pick (either p (ltb 0 0)) (line_text s.indented no_digits) []
+    go : (p : Bool) → coming s.state p [] ≡ pick (either p (ltb 0 0)) (line_text s.state no_digits) []
     go true = refl
     go false = refl
 none_last s (c ∷ held) room h e =
     let f = rw (le-ltb room most h) at e in
     left_last s (c ∷ held) (line_taken s (c ∷ held)) (how s (c ∷ held)) (omega arith)
 
-finished_whole : (s : Reader) (held : List ℕ) (room end : ℕ) → most ≤ room → (feeding (length held) room s held).taken ≡ 0 → most ≤ end
+finished_whole : (s : Standing Bool) (held : List ℕ) (room end : ℕ) → most ≤ room → (feeding (length held) room s held).taken ≡ 0 → most ≤ end
     → finishing end s held ≡ whole s held
 unfolding finishing
 finished_whole s held room end h e k = rw (le-ltb end most k) (sym (none_last s held room h e))
 
 -- ---- the theorem
 
-pub run_whole : {s : Reader} {held input output : List ℕ} → Run s held input output → output ≡ whole s (held ++ input)
+pub run_whole : {s : Standing Bool} {held input output : List ℕ} → Run s held input output → output ≡ whole s (held ++ input)
 run_whole (read {s} {held} {input} {output} block r) = run_whole r ∙ ap (whole s) (append_assoc held block input)
 run_whole (fed {s} {held} {input} {output} room r) =
     ap (λ l. (feeding (length held) room s held).written ++ l) (run_whole r) ∙ sym (feeding_whole (length held) room s held input)
 run_whole (finished {s} {held} room end h e k) = finished_whole s held room end h e k ∙ ap (whole s) (sym (append-nil held))
 
 -- any run of the program from its start writes the explanation of its input
-pub runs : (m : Bool) (input output : List ℕ) → Run (fresh m) [] input output → output ≡ explanation m input
+pub runs : (m : Bool) (input output : List ℕ) → Run (standing (fresh m)) [] input output → output ≡ explanation m input
 unfolding explanation
 runs m input output r = run_whole r
 
 -- ---- and a run there is, for every input: the theorem is not empty
 
-pub record Ran (s : Reader) (held input : List ℕ) : Type 0 where
+pub record Ran (s : Standing Bool) (held input : List ℕ) : Type 0 where
   pub output : List ℕ
   pub run : Run s held input output
 
-drains : (n : ℕ) (s : Reader) (held : List ℕ) → length held ≤ n → Ran s held []
-unfolding feeding
+drains : (n : ℕ) (s : Standing Bool) (held : List ℕ) → length held ≤ n → Ran s held []
+unfolding Hearing.feeding
 drains zero s [] h = record { output = finishing most s []; run = finished most most (omega arith) refl (omega arith) }
 drains zero s (c ∷ held) h = absurd (omega arith)
 drains (suc n) s held h = go (feeding (length held) most s held).taken refl (drains n)
   where
-    go : (k : ℕ) → (feeding (length held) most s held).taken ≡ k → ((t : Reader) (l : List ℕ) → length l ≤ n → Ran t l []) → Ran s held []
+    go : (k : ℕ) → (feeding (length held) most s held).taken ≡ k → ((t : Standing Bool) (l : List ℕ) → length l ≤ n → Ran t l []) → Ran s held []
     go zero e f = record { output = finishing most s held; run = finished most most (omega arith) e (omega arith) }
     go (suc k) e f =
         let r = f (feeding (length held) most s held).reader (drop (feeding (length held) most s held).taken held)
         (omega (arith, length-drop (feeding (length held) most s held).taken held)) in
         record { output = (feeding (length held) most s held).written ++ r.output; run = fed most r.run }
 
-pub every_input : (m : Bool) (input : List ℕ) → Ran (fresh m) [] input
-every_input m input = begun (drains (length input) (fresh m) input (omega arith))
+pub every_input : (m : Bool) (input : List ℕ) → Ran (standing (fresh m)) [] input
+every_input m input = begun (drains (length input) (standing (fresh m)) input (omega arith))
   where
     -- all is read at once
-    begun : Ran (fresh m) input [] → Ran (fresh m) [] input
-    begun r = record { output = r.output; run = subst (λ l. Run (fresh m) [] l r.output) (append-nil input) (read input r.run) }
+    begun : Ran (standing (fresh m)) input [] → Ran (standing (fresh m)) [] input
+    begun r = record { output = r.output; run = subst (λ l. Run (standing (fresh m)) [] l r.output) (append-nil input) (read input r.run) }

@@ -1,13 +1,14 @@
 -- The explanation of a whole input, and in parts: what a reader makes of the input that it is handed, however that is cut. That the parts give the
 -- whole is a theorem (proofs/Whole).
-use Rattle.std.specs.Prelude.{ℕ, zero, suc, ◌+◌, ◌-◌, ◌≤◌, ◌≡◌, Bool, true, false, List, [], ◌∷◌, ◌++◌, eqb, ltb, length, take, drop}
+use Rattle.std.specs.Prelude.{ℕ, Bool, true, false, List, [], ◌∷◌, ◌++◌, eqb, ltb, length, None, Option, Some}
 use Rattle.octets.specs.Choice.{pick, either}
-use Rattle.octets.specs.Put.{Put}
-use Rattle.text.specs.Reading.{to_feed}
+use Rattle.text.specs.Hearing as Hearing
+use Rattle.text.specs.Hearing.{Answer, Standing, Taken, Feeding}
+use Rattle.text.specs.declared.hearing.Fed.{Fed}
+use Rattle.text.specs.declared.hearing.Reader.{Reader}
 use Rattle.phrases.specs.Spelling.{spelled}
 use Rattle.words.specs.Lines.{no_digits, explained}
-use Rattle.words.specs.declared.Reader.{Reader}
-use Rattle.words.specs.declared.Fed.{Fed}
+use Rattle.words.specs.declared.Explainer.{Explainer}
 
 -- ---- the whole
 
@@ -36,33 +37,29 @@ explanation m input = explanation_from m [] input
 
 -- ---- one line
 
+-- the code's, whatever is lent beside it
+abbrev pub indented_of : Explainer → Unit {0} → Bool
+indented_of h u = h.indented
+
+abbrev pub standing : Reader Explainer → Standing Bool
+standing s = Hearing.standing indented_of s tt
+
 -- before the first line
-abbrev pub fresh : (indented : Bool) → Reader
-fresh m = record { indented = m; passing = false }
+abbrev pub fresh : (indented : Bool) → Reader Explainer
+fresh m = record { hearer = record { indented = m }; passing = false }
 
--- What was taken of the input, what the reader is then, and what to print.
-pub record Taken : Type 0 where
-  pub reader : Reader
-  pub taken : ℕ
-  pub text : List ℕ
+-- the characters of the longest line: the word for a frame and 4,096 digits
+abbrev pub longest : ℕ
+longest = 4102
 
-abbrev pub heard : Reader → (taken : ℕ) → (words : List ℕ) → Taken
-heard s n words = record { reader = fresh s.indented; taken = n; text = line_text s.indented words }
-
--- a line is passed over
-abbrev pub passing_over : Reader → Reader
-passing_over s = record { indented = s.indented; passing = true }
-
--- no line feed yet: what is longer than a line may be (the word for a frame and 4,096 digits) is passed over, all else left for later
-abbrev pub not_ended : Reader → List ℕ → Taken
-not_ended s i =
-    pick (either s.passing (ltb 4102 (length i))) (record { reader = passing_over s; taken = length i; text = [] })
-    (record { reader = s; taken = 0; text = [] })
+-- what is said of a line; of one that was too long, that it is none
+abbrev pub answer : (indented : Bool) → Option (List ℕ) → Answer Bool
+answer m None = record { state = m; text = line_text m no_digits }
+answer m (Some line) = record { state = m; text = line_text m (explained line) }
 
 -- the line at the front of the input; of a line that is passed over, its end
-unfoldable pub line_taken : Reader → List ℕ → Taken
-line_taken s i =
-    pick (ltb (to_feed i) (length i)) (heard s (to_feed i + 1) (pick s.passing no_digits (explained (take (to_feed i) i)))) (not_ended s i)
+abbrev pub line_taken : Standing Bool → List ℕ → Taken Bool
+line_taken = Hearing.line_taken longest answer
 
 -- ---- all lines for which there is room
 
@@ -70,36 +67,17 @@ line_taken s i =
 abbrev pub most : ℕ
 most = 512
 
-pub record Feeding : Type 0 where
-  pub reader : Reader
-  pub taken : ℕ
-  pub written : List ℕ
-
-abbrev pub resting : Reader → Feeding
-resting s = record { reader = s; taken = 0; written = [] }
-
-abbrev pub then : Taken → Feeding → Feeding
-then t f = record { reader = f.reader; taken = t.taken + f.taken; written = t.text ++ f.written }
-
 -- one line after the other, at most `lines` of them, until there is no room for one more
-unfoldable pub feeding : (lines room : ℕ) → Reader → List ℕ → Feeding
-feeding zero room s i = resting s
-feeding (suc n) room s i =
-    pick (ltb room most) (resting s)
-    (then (line_taken s i) (feeding n (room - length (line_taken s i).text) (line_taken s i).reader (drop (line_taken s i).taken i)))
+abbrev pub feeding : (lines room : ℕ) → Standing Bool → List ℕ → Feeding Bool
+feeding = Hearing.feeding longest most answer
 
 -- what `feed` answers, and the whole buffer
-pub record Feeds (s : Reader) (i before : List ℕ) (r : Fed) (after : List ℕ) : Type 0 where
-  pub reader : r.reader ≡ (feeding (length i) (length before) s i).reader
-  pub taken : r.taken ≡ (feeding (length i) (length before) s i).taken
-  pub put : Put before 0 (feeding (length i) (length before) s i).written after r.written
-  -- no more than there is, and no more than has room
-  pub within : r.taken ≤ length i
-  pub fits : r.written ≤ length before
+abbrev pub Feeds : Standing Bool → (i before : List ℕ) → Fed (Reader Explainer) → (after : List ℕ) → Type 0
+Feeds s i before r after = Hearing.Feeds indented_of (feeding (length i) (length before) s i) i before tt after r
 
 -- ---- the end of the input
 
 -- the last line, where one stands without its line feed
-unfoldable pub finishing : (room : ℕ) → Reader → (held : List ℕ) → List ℕ
+unfoldable pub finishing : (room : ℕ) → Standing Bool → (held : List ℕ) → List ℕ
 finishing room s held =
-    pick (ltb room most) [] (pick (either s.passing (ltb 0 (length held))) (line_text s.indented no_digits) [])
+    pick (ltb room most) [] (pick (either s.passing (ltb 0 (length held))) (line_text s.state no_digits) [])

@@ -1,28 +1,18 @@
 -- One line taken. For the functions of this crate; no public contract speaks of it.
-use Rattle.std.specs.Prelude.{ℕ, ◌+◌, ◌≤◌, ◌≡◌, List, take}
-use Rattle.octets.specs.Put.{Put}
-use Rattle.text.specs.Reading.{leading, line_in}
-use Rattle.text.specs.declared.Line.{Line}
-use Rattle.text.specs.declared.Line.TheVariants.{Octets}
-use Rattle.words.specs.Feeding.{Taken, most}
-use Rattle.words.specs.declared.Fed.{Fed}
+use Rattle.std.specs.Prelude.{ℕ, ◌+◌, ◌≤◌, ◌<◌, ◌≡◌, Bool, List, length, take, None, Option, Some}
+use Rattle.text.specs.Reading.{to_feed, event_in}
+use Rattle.text.specs.Hearing.{Heard}
+use Rattle.text.specs.declared.hearing.Fed.{Fed}
+use Rattle.words.specs.Lines.{words_of}
+use Rattle.words.specs.Feeding.{indented_of, line_text, most}
+use Rattle.words.specs.declared.Explainer.{Explainer}
 
--- the line at the front of the input was read, and its octets put at the front of `event`
-pub record LineRead (i : List ℕ) (r : Line) (event : List ℕ) : Type 0 where
-  pub line : r ≡ line_in i
-  pub octets : (n next : ℕ) → r ≡ Octets n next → take n event ≡ leading i
+-- the words were printed on a line of their own, and the next line starts at `next`
+abbrev pub Explains : Explainer → (words : List ℕ) → (next : ℕ) → (before : List ℕ) → (at : ℕ) → (after : List ℕ) → Fed Explainer → Type 0
+Explains h words next before at after r = Heard indented_of (record { state = h.indented; text = line_text h.indented words }) next most before at tt after r
 
--- one line of the input was taken, and its explanation printed from the place `at` on
-pub record Takes (t : Taken) (before : List ℕ) (at : ℕ) (after : List ℕ) (r : Fed) : Type 0 where
-  pub reader : r.reader ≡ t.reader
-  pub taken : r.taken ≡ t.taken
-  pub put : Put before at t.text after r.written
-  pub small : r.written ≤ at + most
-
--- the same, counted from n characters before
-abbrev pub shifted : ℕ → Taken → Taken
-shifted n t = record { reader = t.reader; taken = n + t.taken; text = t.text }
-
--- nothing was printed
-abbrev pub left_at : Taken → (at : ℕ) → Fed
-left_at t at = record { reader = t.reader; taken = t.taken; written = at }
+-- digits that begin n characters behind the front of the input were explained, where they have their line feed
+pub data Digits (h : Explainer) (framed : Bool) (n : ℕ) (d before : List ℕ) (at : ℕ) (after : List ℕ) : Option (Fed Explainer) → Type 0 where
+  read : (r : Fed Explainer) → to_feed d < length d → Explains h (words_of framed (event_in (take (to_feed d) d))) (n + (to_feed d + 1)) before at after r
+      → Digits h framed n d before at after (Some r)
+  waits : length d ≤ to_feed d → after ≡ before → Digits h framed n d before at after None

@@ -1,183 +1,165 @@
 // What is said of a line of a listing's output, and of any line by its kind.
-ghost use Rattle.std.specs.Prelude.{◌≡◌, ◌≤◌, ◌+◌, length};
-ghost use Rattle.octets.specs.Put.{Put};
-ghost use Rattle.words.specs.Lines.{wrong_body, delivery_line, out_alone, out_termed, out_start, out_delivery, out_reason, out_seen, out_reply, out_end, out_state, out_refused, line_words};
+ghost use Rattle.std.specs.Prelude.{◌≡◌, ◌≤◌, ◌+◌, ◌++◌, length};
+ghost use Rattle.phrases.specs.Page.{Room, Writes};
+ghost use Rattle.phrases.specs.Tables.{reason_words};
+ghost use Rattle.words.specs.Lines.{output_of, delivery_line, state_words, refused_words, line_words};
 
 use crate::{inputs, parts};
-use phrases::{frames, spelling, tables};
+use book::Terms;
+use phrases::spelling::Page;
+use phrases::{frames, tables};
 
-// A body that the kind never has.
-fn wrong(out: &mut [u8], at: usize) -> usize
-    requires { at + 50 ≤ length out.old }
-    ensures { (Put out.old at wrong_body out.new result) × (result ≤ at + 50) }
-{
-    spelling::say(
-        out,
-        at,
-        b"none: the kind of an output line, but not its body",
-    )
+// A line of a listing, by its kind.
+#[derive(Clone, Copy)]
+pub enum Output {
+    // 00
+    Setup,
+    // 20, or (true) 21
+    Transfer(bool, Terms),
+    // 22, and how the message was delivered
+    Confirmation(u8),
+    // 23
+    End,
+    // 24, and the reason
+    Lost(u8),
+    // 25, and how many extension fields
+    Seen(u16),
+    // 30
+    StartRequest(Terms),
+    // 31, accepted or not
+    StartResponse(bool),
+    // 32
+    DataRequest,
+    // 33
+    EndRequest,
+    // 34, accepted or not
+    EndResponse(bool),
+    // 35, and the reason
+    AbortRequest(u8),
+    // f0
+    State(u8),
+    // ff, and the refusal
+    Refused(u8),
+    // A kind of output with a body that it never has.
+    Wrong,
+    // Any other kind: an event of the input.
+    Input,
 }
 
-// 23, 33
-fn alone(out: &mut [u8], at: usize, word: &[u8], s: &[u8]) -> usize
-    requires { (length word.now ≤ 40) × (at + 420 ≤ length out.old) }
-    ensures { (Put out.old at (out_alone word.now s.now) out.new result) × (result ≤ at + 420) }
+// The line that the octets are.
+#[tactic(auto, unfolding(crate::specs::Lines::output_of, book::specs::Events::terms_in))]
+fn output_of(s: &[u8]) -> Output
+    ensures { result ≡ output_of s.now }
 {
-    if s.len() == 1 {
-        return spelling::say(out, at, word);
+    match *s {
+        [] | [0x00, ..] => Output::Setup,
+        [0x20, class, priority, rer @ 1..=2, ..] => Output::Transfer(
+            false,
+            Terms {
+                class,
+                priority,
+                rer,
+            },
+        ),
+        [0x21, class, priority, rer @ 1..=2, ..] => Output::Transfer(
+            true,
+            Terms {
+                class,
+                priority,
+                rer,
+            },
+        ),
+        [0x22, result @ 0..=2, ..] => Output::Confirmation(result),
+        [0x23] => Output::End,
+        [0x24, reason @ (0..=3 | 10..=16)] => Output::Lost(reason),
+        [0x25, high, low] => Output::Seen(parts::two(high, low)),
+        [0x30, class, priority, rer @ 1..=2, ..] => Output::StartRequest(Terms {
+            class,
+            priority,
+            rer,
+        }),
+        [0x31, result @ 0..=1, ..] => Output::StartResponse(result == 0),
+        [0x32, ..] => Output::DataRequest,
+        [0x33] => Output::EndRequest,
+        [0x34, result @ 0..=1] => Output::EndResponse(result == 0),
+        [0x35, reason @ (0..=3 | 10..=16)] => Output::AbortRequest(reason),
+        [0xf0, state @ 0..=4] => Output::State(state),
+        [0xff, refusal @ 1..=9] => Output::Refused(refusal),
+        [0x20..=0x25 | 0x30 | 0x31 | 0x33..=0x35 | 0xf0 | 0xff, ..] => Output::Wrong,
+        _ => Output::Input,
     }
-    wrong(out, at)
-}
-
-// 20, 21
-fn termed(out: &mut [u8], at: usize, word: &[u8], s: &[u8]) -> usize
-    requires { (length word.now ≤ 40) × (at + 420 ≤ length out.old) }
-    ensures { (Put out.old at (out_termed word.now s.now) out.new result) × (result ≤ at + 420) }
-{
-    if parts::is_termed(s) {
-        let t = parts::terms_at(s);
-        return inputs::with_terms(out, at, word, t, s);
-    }
-    wrong(out, at)
-}
-
-// 30
-fn start(out: &mut [u8], at: usize, s: &[u8]) -> usize
-    requires { at + 420 ≤ length out.old }
-    ensures { (Put out.old at (out_start s.now) out.new result) × (result ≤ at + 420) }
-{
-    if parts::is_termed(s) {
-        let t = parts::terms_at(s);
-        return inputs::with_start(out, at, b"out: D-START request; ", t, s);
-    }
-    wrong(out, at)
 }
 
 // Which message is answered, how, and by what frame.
-fn delivered(out: &mut [u8], at: usize, s: &[u8]) -> usize
-    requires { at + 420 ≤ length out.old }
-    ensures { (Put out.old at (delivery_line s.now) out.new result) × (result ≤ at + 420) }
+fn delivered(page: &mut Page, how: u8, s: &[u8])
+    requires { Room page.old 420 }
+    ensures { Writes page.old (delivery_line how s.now) 420 page.new }
 {
-    let result = parts::octet_at(s, 1);
     let frame = parts::after(s, 2);
-    let a = spelling::say(out, at, b"out: confirmation");
-    let b = frames::answered(out, a, frame);
-    let c = spelling::say(out, b, b": ");
-    let d = tables::delivery(out, c, result);
-    let e = spelling::say(out, d, b"; ");
-    frames::frame_words(out, e, frame)
-}
-
-// 22
-fn delivery(out: &mut [u8], at: usize, s: &[u8]) -> usize
-    requires { at + 420 ≤ length out.old }
-    ensures { (Put out.old at (out_delivery s.now) out.new result) × (result ≤ at + 420) }
-{
-    if parts::is_led(s, 2) {
-        return delivered(out, at, s);
-    }
-    wrong(out, at)
+    page.say(b"out: confirmation");
+    frames::answered(page, frame);
+    page.say(b": ");
+    page.say(tables::delivery(how));
+    page.say(b"; ");
+    frames::frame_words(page, frame);
 }
 
 // 24, 35
-fn reason(out: &mut [u8], at: usize, word: &[u8], s: &[u8]) -> usize
-    requires { (length word.now ≤ 40) × (at + 420 ≤ length out.old) }
-    ensures { (Put out.old at (out_reason word.now s.now) out.new result) × (result ≤ at + 420) }
+fn reason(page: &mut Page, word: &[u8], n: u8)
+    requires { (length word.now ≤ 40) × Room page.old 420 }
+    ensures { Writes page.old (word.now ++ reason_words n) 420 page.new }
 {
-    if parts::is_reasoned(s) {
-        let number = parts::octet_at(s, 1);
-        let next = spelling::say(out, at, word);
-        return tables::reason(out, next, number);
-    }
-    wrong(out, at)
-}
-
-// 25
-fn seen(out: &mut [u8], at: usize, s: &[u8]) -> usize
-    requires { at + 420 ≤ length out.old }
-    ensures { (Put out.old at (out_seen s.now) out.new result) × (result ≤ at + 420) }
-{
-    if s.len() == 3 {
-        let next = spelling::say(out, at, b"out: extension fields seen: ");
-        return inputs::number_at(out, next, s, 1);
-    }
-    wrong(out, at)
-}
-
-// 31
-fn reply(out: &mut [u8], at: usize, s: &[u8]) -> usize
-    requires { at + 420 ≤ length out.old }
-    ensures { (Put out.old at (out_reply s.now) out.new result) × (result ≤ at + 420) }
-{
-    if parts::is_led(s, 1) {
-        let result = parts::octet_at(s, 1);
-        return inputs::with_reply(out, at, b"out: D-START response; ", result == 0, s);
-    }
-    wrong(out, at)
-}
-
-// 34
-fn end(out: &mut [u8], at: usize, s: &[u8]) -> usize
-    requires { at + 420 ≤ length out.old }
-    ensures { (Put out.old at (out_end s.now) out.new result) × (result ≤ at + 420) }
-{
-    if parts::is_pair(s, 0, 1) {
-        let result = parts::octet_at(s, 1);
-        return inputs::with_result(out, at, b"out: D-END response; ", result == 0);
-    }
-    wrong(out, at)
-}
-
-// f0
-fn state(out: &mut [u8], at: usize, s: &[u8]) -> usize
-    requires { at + 420 ≤ length out.old }
-    ensures { (Put out.old at (out_state s.now) out.new result) × (result ≤ at + 420) }
-{
-    if parts::is_pair(s, 0, 4) {
-        let number = parts::octet_at(s, 1);
-        let next = spelling::say(out, at, b"state: ");
-        return tables::state_name(out, next, number);
-    }
-    wrong(out, at)
+    page.say(word);
+    tables::reason(page, n);
 }
 
 // ff
-fn refused(out: &mut [u8], at: usize, s: &[u8]) -> usize
-    requires { at + 420 ≤ length out.old }
-    ensures { (Put out.old at (out_refused s.now) out.new result) × (result ≤ at + 420) }
+fn refused(page: &mut Page, n: u8)
+    requires { Room page.old 420 }
+    ensures { Writes page.old (refused_words n) 420 page.new }
 {
-    if parts::is_pair(s, 1, 9) {
-        let number = parts::octet_at(s, 1);
-        let a = spelling::say(out, at, b"refused, ");
-        let b = spelling::octet(out, a, number);
-        let c = spelling::say(out, b, b": ");
-        return tables::refusal_meaning(out, c, number);
-    }
-    wrong(out, at)
+    page.say(b"refused, ");
+    page.number(usize::from(n));
+    page.say(b": ");
+    page.say(tables::refusal_meaning(n));
+}
+
+// f0
+fn state(page: &mut Page, n: u8)
+    requires { Room page.old 420 }
+    ensures { Writes page.old (state_words n) 420 page.new }
+{
+    page.say(b"state: ");
+    page.say(tables::state_name(n));
 }
 
 // A line of digits, by its kind.
-pub(crate) fn line(out: &mut [u8], at: usize, s: &[u8]) -> usize
-    requires { at + 420 ≤ length out.old }
-    ensures { (Put out.old at (line_words s.now) out.new result) × (result ≤ at + 420) }
+pub(crate) fn line(page: &mut Page, s: &[u8])
+    requires { Room page.old 420 }
+    ensures { Writes page.old (line_words s.now) 420 page.new }
 {
-    let kind = parts::octet_at(s, 0);
-    match kind {
-        0x00 => inputs::setup(out, at, s),
-        0x20 => termed(out, at, b"out: transfer indication; ", s),
-        0x21 => termed(out, at, b"out: confirmed transfer indication; ", s),
-        0x22 => delivery(out, at, s),
-        0x23 => alone(out, at, b"out: end", s),
-        0x24 => reason(out, at, b"out: lost; ", s),
-        0x25 => seen(out, at, s),
-        0x30 => start(out, at, s),
-        0x31 => reply(out, at, s),
-        0x32 => inputs::with_frame(out, at, b"out: D-DATA request; ", s),
-        0x33 => alone(out, at, b"out: D-END request", s),
-        0x34 => end(out, at, s),
-        0x35 => reason(out, at, b"out: D-ABORT request; ", s),
-        0xf0 => state(out, at, s),
-        0xff => refused(out, at, s),
-        _ => inputs::event(out, at, s),
+    match output_of(s) {
+        Output::Setup => inputs::setup(page, s),
+        Output::Transfer(false, t) => inputs::with_terms(page, b"out: transfer indication; ", t, s),
+        Output::Transfer(true, t) => inputs::with_terms(
+            page,
+            b"out: confirmed transfer indication; ",
+            t,
+            s,
+        ),
+        Output::Confirmation(result) => delivered(page, result, s),
+        Output::End => page.say(b"out: end"),
+        Output::Lost(n) => reason(page, b"out: lost; ", n),
+        Output::Seen(n) => inputs::number(page, b"out: extension fields seen: ", n),
+        Output::StartRequest(t) => inputs::with_start(page, b"out: D-START request; ", t, s),
+        Output::StartResponse(yes) => inputs::with_reply(page, b"out: D-START response; ", yes, s),
+        Output::DataRequest => inputs::with_frame(page, b"out: D-DATA request; ", s),
+        Output::EndRequest => page.say(b"out: D-END request"),
+        Output::EndResponse(yes) => inputs::with_result(page, b"out: D-END response; ", yes),
+        Output::AbortRequest(n) => reason(page, b"out: D-ABORT request; ", n),
+        Output::State(n) => state(page, n),
+        Output::Refused(n) => refused(page, n),
+        Output::Wrong => page.say(b"none: the kind of an output line, but not its body"),
+        Output::Input => inputs::event(page, s),
     }
 }

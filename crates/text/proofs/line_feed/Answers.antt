@@ -1,17 +1,15 @@
--- `text::line_feed` meets its contract. The invariant: the first line feed from here on is the first one from the start on.
-use mathlib.Core.Path.{refl, ◌∙◌}
-use borrow.Author.Rules.{rules}
-use Rattle.text.proofs.LineLaws.{feed_here, feed_on, feed_end}
+-- `text::line_feed` meets its contract. Closed by LineLaws: the first line feed is std's first place.
+use Rattle.std.proofs.Common.{inl, inr, ◌∙◌, ap, arith}
+use Rattle.std.specs.Option.{unwrap_or}
+use Rattle.std.specs.Prelude.{length}
+use Rattle.text.proofs.LineLaws.{feed_out, feed_some}
 use Rattle.text.proofs.line_feed.Goals as goal
 
-pub loop-i-init : goal.loop-i-init
-loop-i-init c = refl
-
-pub returns-then-s-i-eq10 : goal.returns-then-s-i-eq10
-returns-then-s-i-eq10 c = feed_here _ _ (search rules) (search rules) ∙ c.loop-i.invariant
-
-pub loop-i-preserved : goal.loop-i-preserved
-loop-i-preserved c = feed_on _ _ (search rules) (search rules) ∙ c.loop-i.invariant
+pub returns-in_default : goal.returns-in_default
+returns-in_default c =
+    let h = c.in_default.ensures.lookup.0 in feed_out c.args.s.now c.args.from (elim h [ inl k ↦ omega arith | inr k ↦ omega arith ])
 
 pub returns : goal.returns
-returns c = feed_end _ _ (search rules) ∙ c.loop-i.invariant
+returns c =
+    let h = c.in-Some.ensures.lookup.0 in
+    feed_some c.args.s.now c.in-Some.rest.now c.args.from c.unwrap_or.result h.2 (c.unwrap_or.ensures ∙ ap (λ o. unwrap_or o (length c.in-Some.rest.now)) c.first_feed.ensures)

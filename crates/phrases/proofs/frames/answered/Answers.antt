@@ -1,11 +1,14 @@
--- `phrases::frames::answered` meets its contract. Closed by FrameLaws, one law for each way out.
-use Rattle.octets.proofs.Puts.{put_as}
-use Rattle.phrases.proofs.FrameLaws.{answered_whole, answered_faulty}
-use borrow.Author.Rules.{rules}
+-- `phrases::frames::answered` meets its contract. Closed by the way that is taken.
+use mathlib.Core.Path.{ap, sym, ◌∙◌}
+use native.Mathlib.Omega.{arith}
+use Rattle.phrases.specs.Frames.{answered_in, answered_words}
+use Rattle.phrases.proofs.FrameLaws.{answered_none}
+use Rattle.phrases.proofs.PageLaws.{nothing, within, writes_as}
 use Rattle.phrases.proofs.frames.answered.Goals as goal
 
-pub returns-in-Whole : goal.returns-in-Whole
-returns-in-Whole c = (put_as (search answered_whole) c.number_at.ensures.0, search rules)
+pub returns-in-Ok : goal.returns-in-Ok
+unfolding answered_words
+returns-in-Ok c = within (writes_as (ap (answered_in c.args.frame.now) (sym c.in-Ok.is ∙ c.read.ensures)) c.number_at.ensures) (omega arith)
 
-pub returns-in-Faulty : goal.returns-in-Faulty
-returns-in-Faulty c = (search answered_faulty, search rules)
+pub returns-in_default : goal.returns-in_default
+returns-in_default c = within (writes_as (answered_none c.args.frame.now c.read.ensures c.in_default.is) (nothing c.args.page.now)) (omega arith)

@@ -1,11 +1,14 @@
--- `phrases::frames::frame_words` meets its contract. Closed by FrameLaws, one law for each way out.
-use Rattle.octets.proofs.Puts.{put_as}
-use Rattle.phrases.proofs.FrameLaws.{frame_whole, frame_faulty}
-use borrow.Author.Rules.{rules}
+-- `phrases::frames::frame_words` meets its contract. Closed by the way that is taken.
+use mathlib.Core.Path.{ap, sym, ◌∙◌}
+use native.Mathlib.Omega.{arith}
+use Rattle.phrases.specs.Frames.{reading_words, frame_words}
+use Rattle.phrases.proofs.PageLaws.{within, writes_as}
 use Rattle.phrases.proofs.frames.frame_words.Goals as goal
 
-pub returns-in-Whole : goal.returns-in-Whole
-returns-in-Whole c = (put_as (search frame_whole) c.message.ensures.0, search rules)
+pub returns-in-Ok : goal.returns-in-Ok
+unfolding frame_words
+returns-in-Ok c = writes_as (ap (reading_words c.args.frame.now) (sym c.in-Ok.is ∙ c.read.ensures)) c.message.ensures
 
-pub returns-in-Faulty : goal.returns-in-Faulty
-returns-in-Faulty c = (put_as (search frame_faulty) c.fault.ensures.0, search rules)
+pub returns-in-Err : goal.returns-in-Err
+unfolding frame_words
+returns-in-Err c = within (writes_as (ap (reading_words c.args.frame.now) (sym c.in-Err.is ∙ c.read.ensures)) c.fault.ensures) (omega arith)

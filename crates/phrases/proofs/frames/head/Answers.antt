@@ -1,9 +1,11 @@
--- `phrases::frames::head` meets its contract. Closed by putting one word after the other.
-use Rattle.octets.proofs.Puts.{then}
+-- `phrases::frames::head` meets its contract. Closed by writing one word after the other.
+use native.Mathlib.Omega.{arith}
 use Rattle.phrases.specs.Frames.{head_words}
-use borrow.Author.Rules.{rules}
+use Rattle.phrases.proofs.PageLaws.{then, within, writes_as}
 use Rattle.phrases.proofs.frames.head.Goals as goal
 
 pub returns : goal.returns
 unfolding head_words
-returns c = (then (then c.shot-a.ensures.0 c.confirmation-b.ensures.0) c.message_type.ensures.0, search rules)
+returns c =
+    within (then (then (writes_as c.shot.ensures.words c.say.ensures) (writes_as c.confirmation.ensures.words c.say-2.ensures)) c.message_type.ensures)
+    (omega (arith, c.shot.ensures.short, c.confirmation.ensures.short))

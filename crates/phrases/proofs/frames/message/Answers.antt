@@ -1,9 +1,9 @@
--- `phrases::frames::message` meets its contract. Closed by putting one word after the other.
-use Rattle.octets.proofs.Puts.{then}
+-- `phrases::frames::message` meets its contract. Closed by writing one word after the other.
+use native.Mathlib.Omega.{arith}
 use Rattle.phrases.specs.Frames.{message_words}
-use borrow.Author.Rules.{rules}
+use Rattle.phrases.proofs.PageLaws.{then, within}
 use Rattle.phrases.proofs.frames.message.Goals as goal
 
 pub returns : goal.returns
 unfolding message_words
-returns c = (then (then c.head-a.ensures.0 c.names-b.ensures.0) c.rest.ensures.0, search rules)
+returns c = within (then (then c.head.ensures c.names.ensures) c.rest.ensures) (omega arith)

@@ -1,9 +1,9 @@
--- `phrases::frames::names` meets its contract. Closed by putting one word after the other.
-use Rattle.octets.proofs.Puts.{then}
+-- `phrases::frames::names` meets its contract. Closed by writing one word after the other.
+use native.Mathlib.Omega.{arith}
 use Rattle.phrases.specs.Frames.{names_words}
-use borrow.Author.Rules.{rules}
+use Rattle.phrases.proofs.PageLaws.{then, within}
 use Rattle.phrases.proofs.frames.names.Goals as goal
 
 pub returns : goal.returns
 unfolding names_words
-returns c = (then c.number_at-next.ensures.0 c.number_at.ensures.0, search rules)
+returns c = within (then c.number_at.ensures c.number_at-2.ensures) (omega arith)

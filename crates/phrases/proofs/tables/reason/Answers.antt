@@ -1,9 +1,14 @@
--- `phrases::tables::reason` meets its contract. Closed by putting one word after the other.
-use Rattle.octets.proofs.Puts.{then}
+-- `phrases::tables::reason` meets its contract. Closed by writing one word after the other.
+use mathlib.Core.Path.{ap}
+use native.Mathlib.Omega.{arith}
+use Rattle.phrases.specs.Spelling.{decimal}
 use Rattle.phrases.specs.Tables.{reason_words}
-use borrow.Author.Rules.{rules}
+use Rattle.phrases.proofs.PageLaws.{then, within, writes_as}
 use Rattle.phrases.proofs.tables.reason.Goals as goal
 
 pub returns : goal.returns
 unfolding reason_words
-returns c = (then (then (then c.say-a.ensures c.octet-b.ensures.0) c.say-c.ensures) c.reason_meaning.ensures.0, search rules)
+returns c =
+    within
+    (then (then (then c.say.ensures (writes_as (ap decimal c.from.ensures) c.number.ensures)) c.say-2.ensures) (writes_as c.reason_meaning.ensures.words c.say-3.ensures))
+    (omega (arith, c.reason_meaning.ensures.short))

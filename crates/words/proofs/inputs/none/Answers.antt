@@ -1,9 +1,14 @@
--- `words::inputs::none` meets its contract. Closed by putting one word after the other.
-use Rattle.octets.proofs.Puts.{then}
+-- `words::inputs::none` meets its contract. Closed by writing one word after the other.
+use mathlib.Core.Path.{ap}
+use native.Mathlib.Omega.{arith}
+use Rattle.phrases.specs.Spelling.{decimal}
 use Rattle.words.specs.Lines.{none_words}
-use borrow.Author.Rules.{rules}
+use Rattle.phrases.proofs.PageLaws.{then, within, writes_as}
 use Rattle.words.proofs.inputs.none.Goals as goal
 
 pub returns : goal.returns
 unfolding none_words
-returns c = (then (then (then c.say-a.ensures c.octet-b.ensures.0) c.say-c.ensures) c.refusal_meaning.ensures.0, search rules)
+returns c =
+    within
+    (then (then (then c.say.ensures (writes_as (ap decimal c.from.ensures) c.number.ensures)) c.say-2.ensures) (writes_as c.refusal_meaning.ensures.words c.say-3.ensures))
+    (omega (arith, c.refusal_meaning.ensures.short))

@@ -1,9 +1,15 @@
--- `words::inputs::with_reply` meets its contract. Closed by putting one word after the other.
-use Rattle.octets.proofs.Puts.{then}
+-- `words::inputs::with_reply` meets its contract. Closed by writing one word after the other.
+use mathlib.Core.Path.{ap}
+use native.Mathlib.Omega.{arith}
+use Rattle.phrases.specs.Frames.{frame_or_nothing}
 use Rattle.words.specs.Lines.{with_reply}
-use borrow.Author.Rules.{rules}
+use Rattle.phrases.proofs.PageLaws.{then, within, writes_as}
 use Rattle.words.proofs.inputs.with_reply.Goals as goal
 
 pub returns : goal.returns
 unfolding with_reply
-returns c = (then (then (then c.say-a.ensures c.accepted-b.ensures.0) c.say-c.ensures) c.rest_after.ensures.0, search rules)
+returns c =
+    within
+    (then (then (then c.say.ensures (writes_as c.accepted.ensures.words c.say-2.ensures)) c.say-3.ensures)
+    (writes_as (ap frame_or_nothing c.after.ensures) c.frame_or_nothing.ensures))
+    (omega (arith, c.accepted.ensures.short))

@@ -1,9 +1,9 @@
--- `words::inputs::with_result` meets its contract. Closed by putting one word after the other.
-use Rattle.octets.proofs.Puts.{then}
+-- `words::inputs::with_result` meets its contract. Closed by writing one word after the other.
+use native.Mathlib.Omega.{arith}
 use Rattle.words.specs.Lines.{with_result}
-use borrow.Author.Rules.{rules}
+use Rattle.phrases.proofs.PageLaws.{then, within, writes_as}
 use Rattle.words.proofs.inputs.with_result.Goals as goal
 
 pub returns : goal.returns
 unfolding with_result
-returns c = (then c.say-next.ensures c.accepted.ensures.0, search rules)
+returns c = within (then c.say.ensures (writes_as c.accepted.ensures.words c.say-2.ensures)) (omega (arith, c.accepted.ensures.short))

@@ -1,9 +1,12 @@
--- `words::inputs::with_start` meets its contract. Closed by putting one word after the other.
-use Rattle.octets.proofs.Puts.{then}
+-- `words::inputs::with_start` meets its contract. Closed by writing one word after the other.
+use mathlib.Core.Path.{ap}
+use native.Mathlib.Omega.{arith}
+use Rattle.phrases.specs.Frames.{frame_or_nothing}
 use Rattle.words.specs.Lines.{with_start}
-use borrow.Author.Rules.{rules}
+use Rattle.phrases.proofs.PageLaws.{then, within, writes_as}
 use Rattle.words.proofs.inputs.with_start.Goals as goal
 
 pub returns : goal.returns
 unfolding with_start
-returns c = (then (then (then c.say-a.ensures c.terms-b.ensures.0) c.say-c.ensures) c.rest_after.ensures.0, search rules)
+returns c =
+    within (then (then (then c.say.ensures c.terms.ensures) c.say-2.ensures) (writes_as (ap frame_or_nothing c.after.ensures) c.frame_or_nothing.ensures)) (omega arith)

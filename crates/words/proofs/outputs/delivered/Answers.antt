@@ -1,12 +1,14 @@
--- `words::outputs::delivered` meets its contract. Closed by putting one word after the other.
+-- `words::outputs::delivered` meets its contract. Closed by writing one word after the other.
 use mathlib.Core.Path.{ap}
-use Rattle.octets.proofs.Puts.{put_as, then}
-use Rattle.phrases.specs.Tables.{delivery_words}
+use native.Mathlib.Omega.{arith}
 use Rattle.phrases.specs.Frames.{frame_words, answered_words}
 use Rattle.words.specs.Lines.{delivery_line}
-use borrow.Author.Rules.{rules}
+use Rattle.phrases.proofs.PageLaws.{then, within, writes_as}
 use Rattle.words.proofs.outputs.delivered.Goals as goal
 
 pub returns : goal.returns
 unfolding delivery_line
-returns c = (then (then (then (then (then c.say-a.ensures (put_as (ap answered_words c.after-frame.ensures) c.answered-b.ensures.0)) c.say-c.ensures) (put_as (ap delivery_words c.octet_at-result.ensures) c.delivery-d.ensures.0)) c.say-e.ensures) (put_as (ap frame_words c.after-frame.ensures) c.frame_words.ensures.0), search rules)
+returns c =
+    let answered = then c.say.ensures (writes_as (ap answered_words c.after-frame.ensures) c.answered.ensures) in
+    let how = then (then answered c.say-2.ensures) (writes_as c.delivery.ensures.words c.say-3.ensures) in
+    within (then (then how c.say-4.ensures) (writes_as (ap frame_words c.after-frame.ensures) c.frame_words.ensures)) (omega (arith, c.delivery.ensures.short))

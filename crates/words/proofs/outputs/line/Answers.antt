@@ -1,69 +1,58 @@
 -- `words::outputs::line` meets its contract. Closed by KindLaws: the words of each kind.
-use Rattle.octets.proofs.Puts.{put_as}
-use Rattle.words.specs.Lines.{kind_words}
-use Rattle.words.proofs.KindLaws.{kind_said, kind_else}
-use borrow.Author.Rules.{rules}
+use mathlib.Core.Path.{ap, ◌∙◌}
+use native.Mathlib.Omega.{arith}
+use Rattle.words.specs.declared.outputs.Output.TheVariants.{Transfer}
+use Rattle.phrases.proofs.PageLaws.{within, writes_as}
+use Rattle.words.proofs.KindLaws.{output_said}
 use Rattle.words.proofs.outputs.line.Goals as goal
 
-pub returns-in-0 : goal.returns-in-0
-unfolding kind_words
-returns-in-0 c = (kind_said c.args.s.now c.octet_at-kind.ensures 0 (search rules) c.setup.ensures.0, search rules)
+pub returns-in-Setup : goal.returns-in-Setup
+returns-in-Setup c = within (writes_as (output_said c.args.s.now c.output_of.ensures c.in-Setup.is) c.setup.ensures) (omega arith)
 
-pub returns-in-32 : goal.returns-in-32
-unfolding kind_words
-returns-in-32 c = (kind_said c.args.s.now c.octet_at-kind.ensures 32 (search rules) c.termed.ensures.0, search rules)
+pub returns-in-Transfer-true-default : goal.returns-in-Transfer-true-default
+returns-in-Transfer-true-default c = within (writes_as (output_said c.args.s.now c.output_of.ensures (c.in-Transfer-true-default.is ∙ ap (λ b. Transfer b c.in-Transfer-true-default.t) c.in-Transfer-true-default.field-0-test)) c.with_terms.ensures) (omega arith)
 
-pub returns-in-33 : goal.returns-in-33
-unfolding kind_words
-returns-in-33 c = (kind_said c.args.s.now c.octet_at-kind.ensures 33 (search rules) c.termed-in-33.ensures.0, search rules)
+pub returns-in-Transfer-false-default : goal.returns-in-Transfer-false-default
+returns-in-Transfer-false-default c = within (writes_as (output_said c.args.s.now c.output_of.ensures (c.in-Transfer-false-default.is ∙ ap (λ b. Transfer b c.in-Transfer-false-default.t) c.in-Transfer-false-default.field-0-test)) c.with_terms-in-Transfer-false-default.ensures) (omega arith)
 
-pub returns-in-34 : goal.returns-in-34
-unfolding kind_words
-returns-in-34 c = (kind_said c.args.s.now c.octet_at-kind.ensures 34 (search rules) c.delivery.ensures.0, search rules)
+pub returns-in-Confirmation : goal.returns-in-Confirmation
+returns-in-Confirmation c = within (writes_as (output_said c.args.s.now c.output_of.ensures c.in-Confirmation.is) c.delivered.ensures) (omega arith)
 
-pub returns-in-35 : goal.returns-in-35
-unfolding kind_words
-returns-in-35 c = (kind_said c.args.s.now c.octet_at-kind.ensures 35 (search rules) c.alone.ensures.0, search rules)
+pub returns-in-End : goal.returns-in-End
+returns-in-End c = within (writes_as (output_said c.args.s.now c.output_of.ensures c.in-End.is) c.say.ensures) (omega arith)
 
-pub returns-in-36 : goal.returns-in-36
-unfolding kind_words
-returns-in-36 c = (kind_said c.args.s.now c.octet_at-kind.ensures 36 (search rules) c.reason.ensures.0, search rules)
+pub returns-in-Lost : goal.returns-in-Lost
+returns-in-Lost c = within (writes_as (output_said c.args.s.now c.output_of.ensures c.in-Lost.is) c.reason.ensures) (omega arith)
 
-pub returns-in-37 : goal.returns-in-37
-unfolding kind_words
-returns-in-37 c = (kind_said c.args.s.now c.octet_at-kind.ensures 37 (search rules) c.seen.ensures.0, search rules)
+pub returns-in-Seen : goal.returns-in-Seen
+returns-in-Seen c = within (writes_as (output_said c.args.s.now c.output_of.ensures c.in-Seen.is) c.number.ensures) (omega arith)
 
-pub returns-in-48 : goal.returns-in-48
-unfolding kind_words
-returns-in-48 c = (kind_said c.args.s.now c.octet_at-kind.ensures 48 (search rules) c.start.ensures.0, search rules)
+pub returns-in-StartRequest : goal.returns-in-StartRequest
+returns-in-StartRequest c = within (writes_as (output_said c.args.s.now c.output_of.ensures c.in-StartRequest.is) c.with_start.ensures) (omega arith)
 
-pub returns-in-49 : goal.returns-in-49
-unfolding kind_words
-returns-in-49 c = (kind_said c.args.s.now c.octet_at-kind.ensures 49 (search rules) c.reply.ensures.0, search rules)
+pub returns-in-StartResponse : goal.returns-in-StartResponse
+returns-in-StartResponse c = within (writes_as (output_said c.args.s.now c.output_of.ensures c.in-StartResponse.is) c.with_reply.ensures) (omega arith)
 
-pub returns-in-50 : goal.returns-in-50
-unfolding kind_words
-returns-in-50 c = (kind_said c.args.s.now c.octet_at-kind.ensures 50 (search rules) c.with_frame.ensures.0, search rules)
+pub returns-in-DataRequest : goal.returns-in-DataRequest
+returns-in-DataRequest c = within (writes_as (output_said c.args.s.now c.output_of.ensures c.in-DataRequest.is) c.with_frame.ensures) (omega arith)
 
-pub returns-in-51 : goal.returns-in-51
-unfolding kind_words
-returns-in-51 c = (kind_said c.args.s.now c.octet_at-kind.ensures 51 (search rules) c.alone-in-51.ensures.0, search rules)
+pub returns-in-EndRequest : goal.returns-in-EndRequest
+returns-in-EndRequest c = within (writes_as (output_said c.args.s.now c.output_of.ensures c.in-EndRequest.is) c.say-in-EndRequest.ensures) (omega arith)
 
-pub returns-in-52 : goal.returns-in-52
-unfolding kind_words
-returns-in-52 c = (kind_said c.args.s.now c.octet_at-kind.ensures 52 (search rules) c.end.ensures.0, search rules)
+pub returns-in-EndResponse : goal.returns-in-EndResponse
+returns-in-EndResponse c = within (writes_as (output_said c.args.s.now c.output_of.ensures c.in-EndResponse.is) c.with_result.ensures) (omega arith)
 
-pub returns-in-53 : goal.returns-in-53
-unfolding kind_words
-returns-in-53 c = (kind_said c.args.s.now c.octet_at-kind.ensures 53 (search rules) c.reason-in-53.ensures.0, search rules)
+pub returns-in-AbortRequest : goal.returns-in-AbortRequest
+returns-in-AbortRequest c = within (writes_as (output_said c.args.s.now c.output_of.ensures c.in-AbortRequest.is) c.reason-in-AbortRequest.ensures) (omega arith)
 
-pub returns-in-240 : goal.returns-in-240
-unfolding kind_words
-returns-in-240 c = (kind_said c.args.s.now c.octet_at-kind.ensures 240 (search rules) c.state.ensures.0, search rules)
+pub returns-in-State : goal.returns-in-State
+returns-in-State c = within (writes_as (output_said c.args.s.now c.output_of.ensures c.in-State.is) c.state.ensures) (omega arith)
 
-pub returns-in-255 : goal.returns-in-255
-unfolding kind_words
-returns-in-255 c = (kind_said c.args.s.now c.octet_at-kind.ensures 255 (search rules) c.refused.ensures.0, search rules)
+pub returns-in-Refused : goal.returns-in-Refused
+returns-in-Refused c = within (writes_as (output_said c.args.s.now c.output_of.ensures c.in-Refused.is) c.refused.ensures) (omega arith)
 
-pub returns-in_default : goal.returns-in_default
-returns-in_default c = (put_as (kind_else c.args.s.now c.octet_at-kind.ensures (search rules) (search rules) (search rules) (search rules) (search rules) (search rules) (search rules) (search rules) (search rules) (search rules) (search rules) (search rules) (search rules) (search rules) (search rules)) c.event.ensures.0, search rules)
+pub returns-in-Wrong : goal.returns-in-Wrong
+returns-in-Wrong c = within (writes_as (output_said c.args.s.now c.output_of.ensures c.in-Wrong.is) c.say-in-Wrong.ensures) (omega arith)
+
+pub returns-in-Input : goal.returns-in-Input
+returns-in-Input c = within (writes_as (output_said c.args.s.now c.output_of.ensures c.in-Input.is) c.event.ensures) (omega arith)

@@ -1,14 +1,12 @@
--- `words::outputs::refused` meets its contract. Closed by KindLaws, one law for each way out.
-use Rattle.octets.proofs.Puts.{put_as, then}
+-- `words::outputs::refused` meets its contract. Closed by writing one word after the other.
 use mathlib.Core.Path.{ap}
+use native.Mathlib.Omega.{arith}
 use Rattle.phrases.specs.Spelling.{decimal}
-use Rattle.phrases.specs.Tables.{refusal_meaning}
-use Rattle.words.proofs.KindLaws.{refused_yes, refused_no}
-use borrow.Author.Rules.{rules}
+use Rattle.phrases.proofs.PageLaws.{then, within, writes_as}
 use Rattle.words.proofs.outputs.refused.Goals as goal
 
-pub returns-then-is_pair : goal.returns-then-is_pair
-returns-then-is_pair c = (put_as (refused_yes c.args.s.now c.is_pair.ensures c.if-is_pair.true) (then (then (then c.say-a.ensures (put_as (ap decimal c.octet_at-number.ensures) c.octet-b.ensures.0)) c.say-c.ensures) (put_as (ap refusal_meaning c.octet_at-number.ensures) c.refusal_meaning.ensures.0)), search rules)
-
 pub returns : goal.returns
-returns c = (put_as (refused_no c.args.s.now c.is_pair.ensures c.if-is_pair.false) c.wrong.ensures.0, search rules)
+returns c =
+    within
+    (then (then (then c.say.ensures (writes_as (ap decimal c.from.ensures) c.number.ensures)) c.say-2.ensures) (writes_as c.refusal_meaning.ensures.words c.say-3.ensures))
+    (omega (arith, c.refusal_meaning.ensures.short))
