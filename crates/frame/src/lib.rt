@@ -1,7 +1,7 @@
 // The message frame: its types, and what may be asked of it. Rules: 01, "The message frame".
 #![tactic(auto)]
 
-ghost use Rattle.std.specs.Prelude.{◌≡◌, ◌<◌, length};
+ghost use Rattle.std.specs.Prelude.{◌≡◌, length};
 ghost use Rattle.std.proofs.lemmas.List.Edits.{sets};
 ghost use Rattle.frame.specs.Faults.{fault_number, refusal_number};
 ghost use Rattle.frame.specs.Encoding.{encode};
@@ -102,10 +102,9 @@ impl From<Refusal> for u8 {
 
 // Whether the bit of that weight is set in octet 0 of a frame.
 pub fn bit(flags: u8, weight: u8) -> bool
-    requires { 0 < weight }
     ensures { result ≡ bit flags weight }
 {
-    flags / weight % 2 == 1
+    weight != 0 && flags / weight % 2 == 1
 }
 
 // The whole message, or the first fault.
