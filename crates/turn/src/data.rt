@@ -9,7 +9,7 @@ ghost use Rattle.turn.specs.Acts.{Acted};
 
 use crate::held::Held;
 use crate::message::Message;
-use crate::{ends, lines, message, moves};
+use crate::{ends, lines, moves};
 use book::{Refusal, Verdict};
 
 // Confirmation 0.
@@ -58,7 +58,7 @@ fn on_note<H: Held>(u: &mut H, m: &Message, out: &mut [u8]) -> Verdict
     ensures { Acted (H.unit u.old) (on_dat (setup_of (H.unit u.old)) (good (frame_at m.now.frame.now m.now.header) m.now.extensions) (state_of (H.unit u.old))) out.old result (H.unit u.new) out.new }
 {
     let pen = lines::put_seen(out, m);
-    let reference = frame::two_octets(m.frame, m.header.reference).unwrap_or(0);
+    let reference = m.reference();
     let found = moves::find(u, reference);
     moves::rest(u);
     let Some(place) = found else {
@@ -90,7 +90,7 @@ pub(crate) fn on_data<H: Held>(u: &mut H, frame: &[u8], out: &mut [u8]) -> Verdi
     if !moves::takes(u, 6) {
         return Err(Refusal::WrongState);
     }
-    match message::read(frame) {
+    match Message::read(frame) {
         Err(fault) => ends::fall(u, out, u8::from(fault)),
         Ok(m) => on_message(u, &m, out),
     }

@@ -9,8 +9,8 @@ ghost use Rattle.said.specs.Saying.{msg_at};
 ghost use Rattle.turn.specs.Acts.{Acted};
 
 use crate::held::Held;
-use crate::message::Request;
-use crate::{lines, message, moves};
+use crate::message::{Message, Request};
+use crate::{lines, moves};
 use book::{Refusal, Terms, Verdict};
 use said::Pen;
 
@@ -20,7 +20,7 @@ fn join<H: Held>(u: &mut H, r: &Request)
     ensures { H.unit u.new ≡ joined (H.unit u.old) (ids_of (msg_at r.now.message.frame.now r.now.message.header)) }
 {
     if r.message.header.confirmation == 1 {
-        u.append(frame::two_octets(r.message.frame, r.message.header.identifier).unwrap_or(0));
+        u.append(r.message.identifier());
     }
 }
 
@@ -76,7 +76,7 @@ fn on_next_sure<H: Held>(u: &mut H, r: &Request, out: &mut [u8]) -> Verdict
     requires room { 1024 ≤ length out.old }
     ensures { Acted (H.unit u.old) (on_multi (bar r.now.terms (msg_at r.now.message.frame.now r.now.message.header) (state_of (H.unit u.old))) r.now.terms (msg_at r.now.message.frame.now r.now.message.header) (state_of (H.unit u.old))) out.old result (H.unit u.new) out.new }
 {
-    let id = frame::two_octets(r.message.frame, r.message.header.identifier).unwrap_or(0);
+    let id = r.message.identifier();
     if moves::find(u, id).is_some() {
         return Err(Refusal::Waits);
     }
@@ -147,7 +147,7 @@ pub(crate) fn on_request<H: Held>(
     requires room { 1024 ≤ length out.old }
     ensures { Acted (H.unit u.old) (on_request confirmed terms (reading_in frame.now) (state_of (H.unit u.old))) out.old result (H.unit u.new) out.new }
 {
-    let Ok(message) = message::read(frame) else {
+    let Ok(message) = Message::read(frame) else {
         return Err(Refusal::BadFrame);
     };
     if message.extensions != 0 {

@@ -10,7 +10,7 @@ ghost use Rattle.turn.specs.Acts.{Acted};
 
 use crate::held::Held;
 use crate::message::Message;
-use crate::{ends, lines, message, moves};
+use crate::{ends, lines, moves};
 use book::{Refusal, Terms, Verdict};
 use said::{Pen, Say};
 
@@ -98,7 +98,7 @@ pub(crate) fn on_start<H: Held>(u: &mut H, a: Terms, frame: &[u8], out: &mut [u8
     if frame.len() == 0 {
         return on_opened(u, a, out);
     }
-    match message::read(frame) {
+    match Message::read(frame) {
         Err(fault) => on_faulty_start(u, u8::from(fault), out),
         Ok(m) => on_greeted(u, a, &m, out),
     }
@@ -150,7 +150,7 @@ fn on_single_answer<H: Held>(u: &mut H, frame: &[u8], out: &mut [u8]) -> Verdict
     if frame.len() == 0 {
         return on_unanswered(u, out);
     }
-    match message::read(frame) {
+    match Message::read(frame) {
         Err(_) => on_unanswered(u, out),
         Ok(m) => on_answered(u, &m, out),
     }
