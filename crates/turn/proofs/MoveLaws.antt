@@ -91,10 +91,6 @@ pub none_found : {g : Option ℕ} → is_some g ≡ false → g ≡ None
 none_found {g = Some j} e = not_taken (sym e)
 none_found {g = None} e = refl
 
-pub needed_or : (o : Option ℕ) {x : ℕ} → x ≡ unwrap_or o 0 → x ≡ needed o
-needed_or (Some y) e = e
-needed_or None e = e
-
 pub bit_weight : (b : Bool) → bool_byte b ≡ weight b 1
 bit_weight true = refl
 bit_weight false = refl

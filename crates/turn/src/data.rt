@@ -4,45 +4,43 @@ ghost use Rattle.book.specs.Book.{on_dat, good};
 ghost use Rattle.book.specs.View.{reading_in, frame_at};
 ghost use Rattle.book.specs.Picture.{setup_of, state_of};
 ghost use Rattle.book.specs.Turns.{takes};
-ghost use Rattle.book.specs.Ready.{Ready, Reads};
+ghost use Rattle.book.specs.Ready.{Ready};
 ghost use Rattle.turn.specs.Acts.{Acted};
 
 use crate::held::Held;
+use crate::message::Message;
 use crate::{ends, lines, moves};
 use book::{Refusal, Verdict};
-use frame::{Header, Whole};
 
 // Confirmation 0.
-fn on_plain<H: Held>(u: &mut H, frame: &[u8], h: Header, n: usize, out: &mut [u8]) -> Verdict
+fn on_plain<H: Held>(u: &mut H, m: &Message, out: &mut [u8]) -> Verdict
     requires ready { Ready (H.unit u.old) }
     requires taken { takes (H.unit u.old).state 6 ≡ true }
-    requires reads { Reads frame.now h n }
-    requires confirmation { h.confirmation ≡ 0 }
+    requires confirmation { m.now.header.confirmation ≡ 0 }
     requires room { 1024 ≤ length out.old }
-    ensures { Acted (H.unit u.old) (on_dat (setup_of (H.unit u.old)) (good (frame_at frame.now h) n) (state_of (H.unit u.old))) out.old result (H.unit u.new) out.new }
+    ensures { Acted (H.unit u.old) (on_dat (setup_of (H.unit u.old)) (good (frame_at m.now.frame.now m.now.header) m.now.extensions) (state_of (H.unit u.old))) out.old result (H.unit u.new) out.new }
 {
-    let pen = lines::put_seen(out, n);
+    let pen = lines::put_seen(out, m);
     let t = u.terms();
-    let done = lines::put_given(out, pen, 0x20, t, frame, h.end);
+    let done = lines::put_given(out, pen, 0x20, t, m);
     moves::rest(u);
     lines::finished(done)
 }
 
 // Confirmation 1: in Associated with an acknowledgement, in Ending without.
-fn on_sure<H: Held>(u: &mut H, frame: &[u8], h: Header, n: usize, out: &mut [u8]) -> Verdict
+fn on_sure<H: Held>(u: &mut H, m: &Message, out: &mut [u8]) -> Verdict
     requires ready { Ready (H.unit u.old) }
     requires taken { takes (H.unit u.old).state 6 ≡ true }
-    requires reads { Reads frame.now h n }
-    requires confirmation { h.confirmation ≡ 1 }
+    requires confirmation { m.now.header.confirmation ≡ 1 }
     requires room { 1024 ≤ length out.old }
-    ensures { Acted (H.unit u.old) (on_dat (setup_of (H.unit u.old)) (good (frame_at frame.now h) n) (state_of (H.unit u.old))) out.old result (H.unit u.new) out.new }
+    ensures { Acted (H.unit u.old) (on_dat (setup_of (H.unit u.old)) (good (frame_at m.now.frame.now m.now.header) m.now.extensions) (state_of (H.unit u.old))) out.old result (H.unit u.new) out.new }
 {
-    let pen = lines::put_seen(out, n);
+    let pen = lines::put_seen(out, m);
     let t = u.terms();
-    let given = lines::put_given(out, pen, 0x21, t, frame, h.end);
+    let given = lines::put_given(out, pen, 0x21, t, m);
     let s = u.state();
     if s == 4 {
-        let note = said::ack_of(frame, h);
+        let note = said::ack_of(m.frame, m.header);
         let done = lines::put_sent(out, given, note, u.name());
         moves::rest(u);
         return lines::finished(done);
@@ -52,41 +50,36 @@ fn on_sure<H: Held>(u: &mut H, frame: &[u8], h: Header, n: usize, out: &mut [u8]
 }
 
 // Confirmation 2 to 4: an answer, if its reference waits.
-fn on_note<H: Held>(u: &mut H, frame: &[u8], h: Header, n: usize, out: &mut [u8]) -> Verdict
+fn on_note<H: Held>(u: &mut H, m: &Message, out: &mut [u8]) -> Verdict
     requires ready { Ready (H.unit u.old) }
     requires taken { takes (H.unit u.old).state 6 ≡ true }
-    requires reads { Reads frame.now h n }
-    requires confirmation { 2 ≤ h.confirmation }
+    requires confirmation { 2 ≤ m.now.header.confirmation }
     requires room { 1024 ≤ length out.old }
-    ensures { Acted (H.unit u.old) (on_dat (setup_of (H.unit u.old)) (good (frame_at frame.now h) n) (state_of (H.unit u.old))) out.old result (H.unit u.new) out.new }
+    ensures { Acted (H.unit u.old) (on_dat (setup_of (H.unit u.old)) (good (frame_at m.now.frame.now m.now.header) m.now.extensions) (state_of (H.unit u.old))) out.old result (H.unit u.new) out.new }
 {
-    let pen = lines::put_seen(out, n);
-    let reference = frame::two_octets(frame, h.reference).unwrap_or(0);
+    let pen = lines::put_seen(out, m);
+    let reference = m.reference();
     let found = moves::find(u, reference);
     moves::rest(u);
     let Some(place) = found else {
         return lines::finished(pen);
     };
-    let done = lines::put_confirmed(out, pen, h, frame);
+    let done = lines::put_confirmed(out, pen, m);
     u.remove(place);
     lines::finished(done)
 }
 
-fn on_message<H: Held>(u: &mut H, frame: &[u8], h: Header, n: usize, out: &mut [u8]) -> Verdict
+fn on_message<H: Held>(u: &mut H, m: &Message, out: &mut [u8]) -> Verdict
     requires ready { Ready (H.unit u.old) }
     requires taken { takes (H.unit u.old).state 6 ≡ true }
-    requires reads { Reads frame.now h n }
     requires room { 1024 ≤ length out.old }
-    ensures { Acted (H.unit u.old) (on_dat (setup_of (H.unit u.old)) (good (frame_at frame.now h) n) (state_of (H.unit u.old))) out.old result (H.unit u.new) out.new }
+    ensures { Acted (H.unit u.old) (on_dat (setup_of (H.unit u.old)) (good (frame_at m.now.frame.now m.now.header) m.now.extensions) (state_of (H.unit u.old))) out.old result (H.unit u.new) out.new }
 {
-    let c = h.confirmation;
-    if c == 0 {
-        return on_plain(u, frame, h, n, out);
+    match m.header.confirmation {
+        0 => on_plain(u, m, out),
+        1 => on_sure(u, m, out),
+        _ => on_note(u, m, out),
     }
-    if c == 1 {
-        return on_sure(u, frame, h, n, out);
-    }
-    on_note(u, frame, h, n, out)
 }
 
 pub(crate) fn on_data<H: Held>(u: &mut H, frame: &[u8], out: &mut [u8]) -> Verdict
@@ -97,8 +90,8 @@ pub(crate) fn on_data<H: Held>(u: &mut H, frame: &[u8], out: &mut [u8]) -> Verdi
     if !moves::takes(u, 6) {
         return Err(Refusal::WrongState);
     }
-    match frame::read(frame) {
+    match Message::read(frame) {
         Err(fault) => ends::fall(u, out, u8::from(fault)),
-        Ok(Whole { header, extensions }) => on_message(u, frame, header, extensions, out),
+        Ok(m) => on_message(u, &m, out),
     }
 }

@@ -17,6 +17,7 @@ mod ends;
 pub mod held;
 mod in_place;
 mod lines;
+mod message;
 mod moves;
 mod requests;
 mod starts;

@@ -10,8 +10,8 @@ ghost use Rattle.said.specs.Pens.{Laid};
 ghost use Rattle.said.specs.Notes.{note_octets, answer_line};
 ghost use Rattle.said.specs.Saying.{seen_lines};
 
+use crate::message::Message;
 use book::{Done, Terms, Verdict};
-use frame::Header;
 use image::seen::Seen;
 use said::{Note, Pen, Say};
 
@@ -123,13 +123,13 @@ pub(crate) fn put_terms(out: &mut [u8], pen: Pen, kind: u8, t: Terms) -> Pen
 }
 
 // Line 25, where there are extension fields.
-pub(crate) fn put_seen(out: &mut [u8], n: usize) -> Pen
-    requires few { n ≤ 511 }
-    requires room { 1024 ≤ length out.old }
-    ensures laid { Laid out.old (record { at = 0; lines = 0 }) (seen_lines n) out.new result }
+pub(crate) fn put_seen(out: &mut [u8], m: &Message) -> Pen
+    requires { 1024 ≤ length out.old }
+    ensures laid { Laid out.old (record { at = 0; lines = 0 }) (seen_lines m.now.extensions) out.new result }
     ensures place { result.at ≤ 5 }
     ensures lines { result.lines ≤ 1 }
 {
+    let n = m.extensions;
     if n == 0 {
         return Pen { at: 0, lines: 0 };
     }
@@ -138,62 +138,48 @@ pub(crate) fn put_seen(out: &mut [u8], n: usize) -> Pen
     Pen { at: end, lines: 1 }
 }
 
-// A line of one octet and a received frame, without its extension fields.
-pub(crate) fn put_framed(out: &mut [u8], pen: Pen, a: u8, frame: &[u8], end: usize) -> Pen
-    requires begun { 1 ≤ end }
-    requires within { end ≤ length frame.now }
-    requires short { end ≤ 554 }
+// A line of one octet and a message, without its extension fields.
+pub(crate) fn put_framed(out: &mut [u8], pen: Pen, a: u8, m: &Message) -> Pen
     requires lines { pen.lines ≤ 100 }
-    requires room { pen.at + 6 + end ≤ length out.old }
-    ensures laid { Laid out.old pen ((a ∷ bare_to frame.now end) ∷ []) out.new result }
-    ensures place { result.at ≡ pen.at + 3 + end }
+    requires room { pen.at + 6 + m.now.header.end ≤ length out.old }
+    ensures laid { Laid out.old pen ((a ∷ bare_to m.now.frame.now m.now.header.end) ∷ []) out.new result }
+    ensures place { result.at ≡ pen.at + 3 + m.now.header.end }
 {
+    let end = m.header.end;
     let next = head_one(out, pen.at, a, end);
-    frame::put_bare(frame, end, out, next);
+    frame::put_bare(m.frame, end, out, next);
     Pen {
         at: next + end,
         lines: pen.lines + 1,
     }
 }
 
-// Line 20 or 21, or 30 with a frame.
-pub(crate) fn put_given(
-    out: &mut [u8],
-    pen: Pen,
-    kind: u8,
-    t: Terms,
-    frame: &[u8],
-    end: usize,
-) -> Pen
-    requires begun { 1 ≤ end }
-    requires within { end ≤ length frame.now }
-    requires short { end ≤ 554 }
+// Line 20 or 21, or 30 with a message.
+pub(crate) fn put_given(out: &mut [u8], pen: Pen, kind: u8, t: Terms, m: &Message) -> Pen
     requires lines { pen.lines ≤ 100 }
-    requires room { pen.at + 6 + end ≤ length out.old }
-    ensures laid { Laid out.old pen ((kind ∷ (terms_octets t ++ bare_to frame.now end)) ∷ []) out.new result }
-    ensures place { result.at ≡ pen.at + 6 + end }
+    requires room { pen.at + 6 + m.now.header.end ≤ length out.old }
+    ensures laid { Laid out.old pen ((kind ∷ (terms_octets t ++ bare_to m.now.frame.now m.now.header.end)) ∷ []) out.new result }
+    ensures place { result.at ≡ pen.at + 6 + m.now.header.end }
 {
+    let end = m.header.end;
     let next = head_terms(out, pen.at, kind, t, end);
-    frame::put_bare(frame, end, out, next);
+    frame::put_bare(m.frame, end, out, next);
     Pen {
         at: next + end,
         lines: pen.lines + 1,
     }
 }
 
-// Line 22 with a received frame.
-pub(crate) fn put_confirmed(out: &mut [u8], pen: Pen, h: Header, frame: &[u8]) -> Pen
-    requires begun { 1 ≤ h.end }
-    requires within { h.end ≤ length frame.now }
-    requires short { h.end ≤ 554 }
+// Line 22 with a received message.
+pub(crate) fn put_confirmed(out: &mut [u8], pen: Pen, m: &Message) -> Pen
     requires lines { pen.lines ≤ 100 }
-    requires room { pen.at + 6 + h.end ≤ length out.old }
-    ensures { Laid out.old pen ((34 ∷ pick (eqb h.confirmation 2) 0 1 ∷ bare_to frame.now h.end) ∷ []) out.new result }
+    requires room { pen.at + 6 + m.now.header.end ≤ length out.old }
+    ensures { Laid out.old pen ((34 ∷ pick (eqb m.now.header.confirmation 2) 0 1 ∷ bare_to m.now.frame.now m.now.header.end) ∷ []) out.new result }
 {
-    let end = h.end;
-    let result = said::result_of(h.confirmation);
+    let end = m.header.end;
+    let result = said::result_of(m.header.confirmation);
     let next = head_two(out, pen.at, 0x22, result, end);
-    frame::put_bare(frame, end, out, next);
+    frame::put_bare(m.frame, end, out, next);
     Pen {
         at: next + end,
         lines: pen.lines + 1,

@@ -3,82 +3,64 @@ ghost use Rattle.std.specs.Prelude.{◌≡◌, true, false, [], ◌∷◌, ◌�
 ghost use Rattle.book.specs.Book.{on_start, on_reply, first_contact, good, done, idle, with_seen, send, cut};
 ghost use Rattle.book.specs.Picture.{setup_of, state_of};
 ghost use Rattle.book.specs.Step.{or_nothing};
-ghost use Rattle.book.specs.Ready.{Ready, Reads};
+ghost use Rattle.book.specs.Ready.{Ready};
 ghost use Rattle.book.specs.View.{frame_at};
 ghost use Rattle.said.specs.Saying.{greeted};
 ghost use Rattle.turn.specs.Acts.{Acted};
 
 use crate::held::Held;
+use crate::message::Message;
 use crate::{ends, lines, moves};
 use book::{Refusal, Terms, Verdict};
-use frame::{Header, Whole};
 use said::{Pen, Say};
 
 // A valid frame that is not expected here: 35 reason 10, and the unit stays.
-fn cut_off<H: Held>(u: &H, n: usize, out: &mut [u8]) -> Verdict
+fn cut_off<H: Held>(u: &H, m: &Message, out: &mut [u8]) -> Verdict
     requires ready { Ready (H.unit u.now) }
     requires in_state { (H.unit u.now).state ≡ 0 }
-    requires few { n ≤ 511 }
     requires room { 1024 ≤ length out.old }
-    ensures { Acted (H.unit u.now) (done idle (with_seen n (send (cut 10) ∷ []))) out.old result (H.unit u.now) out.new }
+    ensures { Acted (H.unit u.now) (done idle (with_seen m.now.extensions (send (cut 10) ∷ []))) out.old result (H.unit u.now) out.new }
 {
-    let pen = lines::put_seen(out, n);
+    let pen = lines::put_seen(out, m);
     let done = lines::put_two(out, pen, 0x35, 10);
     lines::finished(done)
 }
 
 // A single-shot message, given to the user: 31 rejected, for confirmation 1 with an acknowledgement.
-fn on_single_shot<H: Held>(
-    u: &H,
-    a: Terms,
-    frame: &[u8],
-    h: Header,
-    n: usize,
-    out: &mut [u8],
-) -> Verdict
+fn on_single_shot<H: Held>(u: &H, a: Terms, m: &Message, out: &mut [u8]) -> Verdict
     requires ready { Ready (H.unit u.now) }
     requires in_state { (H.unit u.now).state ≡ 0 }
-    requires reads { Reads frame.now h n }
-    requires confirmation { h.confirmation < 2 }
-    requires single { h.multi_shot ≡ false }
+    requires confirmation { m.now.header.confirmation < 2 }
+    requires single { m.now.header.multi_shot ≡ false }
     requires room { 1024 ≤ length out.old }
-    ensures { Acted (H.unit u.now) (greeted (setup_of (H.unit u.now)) a (frame_at frame.now h) n) out.old result (H.unit u.now) out.new }
+    ensures { Acted (H.unit u.now) (greeted (setup_of (H.unit u.now)) a (frame_at m.now.frame.now m.now.header) m.now.extensions) out.old result (H.unit u.now) out.new }
 {
-    let pen = lines::put_seen(out, n);
-    let c = h.confirmation;
-    if c == 0 {
-        let given = lines::put_given(out, pen, 0x20, a, frame, h.end);
+    let pen = lines::put_seen(out, m);
+    if m.header.confirmation == 0 {
+        let given = lines::put_given(out, pen, 0x20, a, m);
         let done = lines::put_two(out, given, 0x31, 1);
         return lines::finished(done);
     }
-    let given = lines::put_given(out, pen, 0x21, a, frame, h.end);
-    let note = said::ack_of(frame, h);
+    let given = lines::put_given(out, pen, 0x21, a, m);
+    let note = said::ack_of(m.frame, m.header);
     let done = lines::put_noted(out, given, 0x31, 1, note, u.name());
     lines::finished(done)
 }
 
 // 10 with a valid frame.
-fn on_greeted<H: Held>(
-    u: &H,
-    a: Terms,
-    frame: &[u8],
-    h: Header,
-    n: usize,
-    out: &mut [u8],
-) -> Verdict
+fn on_greeted<H: Held>(u: &H, a: Terms, m: &Message, out: &mut [u8]) -> Verdict
     requires ready { Ready (H.unit u.now) }
     requires in_state { (H.unit u.now).state ≡ 0 }
-    requires reads { Reads frame.now h n }
     requires room { 1024 ≤ length out.old }
-    ensures { Acted (H.unit u.now) (greeted (setup_of (H.unit u.now)) a (frame_at frame.now h) n) out.old result (H.unit u.now) out.new }
+    ensures { Acted (H.unit u.now) (greeted (setup_of (H.unit u.now)) a (frame_at m.now.frame.now m.now.header) m.now.extensions) out.old result (H.unit u.now) out.new }
 {
-    if 1 < h.confirmation {
-        return cut_off(u, n, out);
+    if 1 < m.header.confirmation {
+        return cut_off(u, m, out);
     }
-    if h.multi_shot {
-        return cut_off(u, n, out);
+    if m.header.multi_shot {
+        return cut_off(u, m, out);
     }
-    on_single_shot(u, a, frame, h, n, out)
+    on_single_shot(u, a, m, out)
 }
 
 // 10 without a frame.
@@ -116,9 +98,9 @@ pub(crate) fn on_start<H: Held>(u: &mut H, a: Terms, frame: &[u8], out: &mut [u8
     if frame.len() == 0 {
         return on_opened(u, a, out);
     }
-    match frame::read(frame) {
+    match Message::read(frame) {
         Err(fault) => on_faulty_start(u, u8::from(fault), out),
-        Ok(Whole { header, extensions }) => on_greeted(u, a, frame, header, extensions, out),
+        Ok(m) => on_greeted(u, a, &m, out),
     }
 }
 
@@ -141,16 +123,15 @@ fn on_unanswered<H: Held>(u: &mut H, out: &mut [u8]) -> Verdict
 }
 
 // The one that waits in Start-single answered by a valid frame.
-fn on_answered<H: Held>(u: &mut H, frame: &[u8], h: Header, n: usize, out: &mut [u8]) -> Verdict
+fn on_answered<H: Held>(u: &mut H, m: &Message, out: &mut [u8]) -> Verdict
     requires ready { Ready (H.unit u.old) }
     requires in_state { (H.unit u.old).state ≡ 1 }
     requires waits { 1 ≤ (H.unit u.old).count }
-    requires reads { Reads frame.now h n }
     requires room { 1024 ≤ length out.old }
-    ensures { Acted (H.unit u.old) (on_reply (setup_of (H.unit u.old)) false (Some (good (frame_at frame.now h) n)) (state_of (H.unit u.old))) out.old result (H.unit u.new) out.new }
+    ensures { Acted (H.unit u.old) (on_reply (setup_of (H.unit u.old)) false (Some (good (frame_at m.now.frame.now m.now.header) m.now.extensions)) (state_of (H.unit u.old))) out.old result (H.unit u.new) out.new }
 {
-    let pen = lines::put_seen(out, n);
-    let done = lines::put_confirmed(out, pen, h, frame);
+    let pen = lines::put_seen(out, m);
+    let done = lines::put_confirmed(out, pen, m);
     u.to_idle();
     lines::finished(done)
 }
@@ -169,9 +150,9 @@ fn on_single_answer<H: Held>(u: &mut H, frame: &[u8], out: &mut [u8]) -> Verdict
     if frame.len() == 0 {
         return on_unanswered(u, out);
     }
-    match frame::read(frame) {
+    match Message::read(frame) {
         Err(_) => on_unanswered(u, out),
-        Ok(Whole { header, extensions }) => on_answered(u, frame, header, extensions, out),
+        Ok(m) => on_answered(u, &m, out),
     }
 }
 

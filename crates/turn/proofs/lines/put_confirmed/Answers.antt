@@ -7,4 +7,4 @@ use borrow.Author.Rules.{rules}
 use Rattle.turn.proofs.lines.put_confirmed.Goals as goal
 
 pub returns : goal.returns
-returns c = laid_as (ap (λ x. (34 ∷ x ∷ bare_to c.args.frame.now c.args.h.end) ∷ []) c.result_of-result.ensures) (line_bare (34 ∷ c.result_of-result.result ∷ []) c.args.frame.now c.args.h.end _ (search rules) (search rules) c.head_two-next.ensures c.put_bare.ensures)
+returns c = laid_as (ap (λ x. (34 ∷ x ∷ bare_to c.args.m.now.frame.now c.args.m.now.header.end) ∷ []) c.result_of-result.ensures) (line_bare (34 ∷ c.result_of-result.result ∷ []) c.args.m.now.frame.now c.args.m.now.header.end _ (search rules) (search rules) c.head_two-next.ensures c.put_bare.ensures)

@@ -8,4 +8,4 @@ use Rattle.turn.proofs.requests.on_next.Goals as goal
 
 pub returns-then-ne : goal.returns-then-ne
 unfolding same_terms
-returns-then-ne g c = refused_in_place _ (ask_3 c.requires.ready c.requires.reads c.args.a c.requires.in_state {b = same_terms c.settle-t.result (g.H.Seen.unit c.args.u.now).terms} c.settle-t.ensures refl (search rules)) refl
+returns-then-ne g c = refused_in_place _ (ask_3 c.requires.ready c.args.r.now.reads c.args.r.now.terms c.requires.in_state {b = same_terms c.settle-t.result (g.H.Seen.unit c.args.u.now).terms} c.settle-t.ensures refl (search rules)) refl

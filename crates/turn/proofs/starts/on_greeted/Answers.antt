@@ -4,8 +4,8 @@ use Rattle.turn_laws.proofs.Gave.{turned_as}
 use native.Mathlib.Omega.{arith}
 use Rattle.turn.proofs.starts.on_greeted.Goals as goal
 
-pub returns-then-h-gt1 : goal.returns-then-h-gt1
-returns-then-h-gt1 g c = turned_as (greeted_note _ c.args.a c.args.frame.now c.args.h _ c.if-h-gt1.true) c.cut_off.ensures
+pub returns-then-m-gt1 : goal.returns-then-m-gt1
+returns-then-m-gt1 g c = turned_as (greeted_note _ c.args.a c.args.m.now.frame.now c.args.m.now.header _ c.if-m-gt1.true) c.cut_off.ensures
 
-pub returns-then-h : goal.returns-then-h
-returns-then-h g c = turned_as (greeted_multi _ c.args.a c.args.frame.now c.args.h _ (omega (arith, c.if-h-gt1.false)) c.if-h.true) c.cut_off-then-h.ensures
+pub returns-then-m : goal.returns-then-m
+returns-then-m g c = turned_as (greeted_multi _ c.args.a c.args.m.now.frame.now c.args.m.now.header _ (omega (arith, c.if-m-gt1.false)) c.if-m.true) c.cut_off-then-m.ensures

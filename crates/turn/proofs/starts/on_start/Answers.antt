@@ -22,11 +22,8 @@ on_faulty_start-requires-clause-in_state g c = start_idle c.requires.ready (sym 
 pub on_greeted-requires-clause-in_state : goal.on_greeted-requires-clause-in_state
 on_greeted-requires-clause-in_state g c = start_idle c.requires.ready (sym c.takes.ensures ∙ c.if-not-takes.false)
 
-pub on_greeted-requires-clause-reads : goal.on_greeted-requires-clause-reads
-on_greeted-requires-clause-reads g c = reads_made _ _ c.read.ensures c.in-Ok.is (λ j. omega (arith, c.shared_slice_known-1.given j))
-
 pub returns-in-Err : goal.returns-in-Err
-returns-in-Err g c = start_bad c.requires.ready c.args.a c.args.frame.now (sym c.takes.ensures ∙ c.if-not-takes.false) c.if-frame-eq0.false c.read.ensures c.in-Err.is c.from.ensures c.on_faulty_start.ensures
+returns-in-Err g c = start_bad c.requires.ready c.args.a c.args.frame.now (sym c.takes.ensures ∙ c.if-not-takes.false) c.if-frame-eq0.false (sym c.in-Err.ensures) refl c.from.ensures c.on_faulty_start.ensures
 
 pub returns-in-Ok : goal.returns-in-Ok
-returns-in-Ok g c = start_good c.requires.ready c.args.a c.args.frame.now (sym c.takes.ensures ∙ c.if-not-takes.false) c.if-frame-eq0.false c.read.ensures c.in-Ok.is c.on_greeted.ensures
+returns-in-Ok g c = start_good c.requires.ready c.args.a c.args.frame.now (sym c.takes.ensures ∙ c.if-not-takes.false) c.if-frame-eq0.false (sym c.in-Ok.ensures.1) refl (rw c.in-Ok.ensures.0 at c.on_greeted.ensures)
