@@ -52,7 +52,8 @@ pub trait Hearer: Copy {
     // What a line leaves and prints; `None` is a line that was too long.
     ghost answer: { State → Option (List ℕ) → Answer State };
 
-    // The line at the front of the input, where it has its line feed.
+    // The line at the front of the input, where it has its line feed. The output and the place up to which it is written come apart, and the place goes
+    // back in `Fed`, as from `feed`: on a page (crate phrases) it would stand twice, which is no plainer.
     fn hear(
         self,
         unit: &mut Self::Unit,

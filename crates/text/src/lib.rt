@@ -98,11 +98,10 @@ pub fn line_in(s: &[u8], event: &mut [u8; 2048]) -> Option<Line>
 
 // The octets of a line, in the array that it was read with; none of a line that is refused.
 pub fn octets_of(line: Line, event: &[u8; 2048]) -> Option<&[u8]>
-    requires { IfSome line.octets (λ k. k ≤ 2048) }
     ensures { held_in result ≡ option_map (λ k. take k event.now) line.octets }
 {
     match line.octets {
-        Some(n) => Some(&event[..n]),
+        Some(n) => Some(&event[..n.min(2048)]),
         None => None,
     }
 }
@@ -127,7 +126,7 @@ fn fits(room: usize, at: usize, n: usize) -> bool
     at < room && n <= (room - at - 1) / 2
 }
 
-// The digits of octets, from a place on.
+// The digits of octets, from a place on. Here and in `print`, which stand below pages (crate phrases), a lone buffer and a place are no less plain.
 pub fn put_digits(out: &mut [u8], at: usize, line: &[u8]) -> usize
     requires { at + 2 * length line.now < length out.old }
     ensures { (result ≡ at + 2 * length line.now) × (out.new ≡ sets out.old at (digits_of line.now)) }
@@ -140,6 +139,7 @@ pub fn put_digits(out: &mut [u8], at: usize, line: &[u8]) -> usize
 }
 
 // Octets as a line of the listing's output, from a place on; nothing where the whole line has no room. The place after it.
+#[tactic(auto, using(crate::proofs::PrintLaws::fits_in))]
 pub fn print(out: &mut [u8], at: usize, line: &[u8]) -> usize
     ensures { (result ≡ at + length (printed_in (length out.old) at line.now)) × (out.new ≡ sets out.old at (printed_in (length out.old) at line.now)) }
 {

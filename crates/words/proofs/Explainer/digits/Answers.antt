@@ -7,9 +7,6 @@ use Rattle.words.proofs.Explainer.digits.Goals as goal
 pub returns-in_err-line : goal.returns-in_err-line
 returns-in_err-line c = digits_wait c.args.self c.args.framed c.args.n c.args.digits.now _ _ (line_unended _ _ c.line_in.ensures.0 c.in_err-line.was) _ c.from_residual.ensures
 
-pub octets_of-octets-requires : goal.octets_of-octets-requires
-octets_of-octets-requires c = let e = c.line_in.ensures in (line_read c.args.digits.now _ _ _ _ e.0 c.in_ok-line.was e.1.0 e.1.1).few
-
 pub overflow_add-n : goal.overflow_add-n
 overflow_add-n c =
     let e = c.line_in.ensures in
