@@ -38,7 +38,7 @@ fn fixed(frame: &[u8], present: bool, n: usize, at: usize) -> Step
     Ok((Some(Place { start: at, len: n }), at + n))
 }
 
-// The sender: a length octet 1..32 and its octets.
+// The sender: a length octet 1..32 and its octets. (It and the user data differ in the length's octets, its range and its test, so each has a reader.)
 #[tactic(auto, unfolding(crate::specs::Reading::sender_at, crate::specs::Reading::fixed_at))]
 fn sender(frame: &[u8], present: bool, at: usize) -> Step
     ensures { result ≡ sender_at frame.now present at }

@@ -7,6 +7,9 @@ ghost use Rattle.frame.specs.Writing.{message_of, PutField, Room, wrong_sender, 
 
 use crate::{Fault, Parts, Refusal, reader};
 
+// A type and a number have a writer each. One for both, over `Option<[u8; N]>`, has its callers make the arrays by `map`, and is no plainer; nor is one
+// for sender and data, whose lengths take one octet and two.
+
 fn put_type(message_type: Option<u8>, out: &mut [u8]) -> usize
     ensures { PutField (type_octets message_type) 1 out.old out.new result }
 {
