@@ -3,8 +3,8 @@ use Rattle.std.specs.Prelude.{None, Option, Some}
 use Rattle.std.specs.Option.{option_map}
 use Rattle.std.specs.Borrow.{Bor}
 use Prim.Native.Nat.{ℕ, ◌<◌, ◌≤◌}
-use mathlib.Core.Path.{◌≡◌, refl, ◌∙◌}
-use mathlib.Core.Bool.{Bool, true, false}
+use mathlib.Core.Path.{◌≡◌, refl}
+use mathlib.Core.Bool.{Bool}
 use mathlib.Core.List.{List}
 use native.Mathlib.Omega.{arith}
 use borrow.Author.Tests.{le-ltb, lt-ltb}
@@ -49,9 +49,3 @@ module _ (s : Standing) (held out : List ℕ) where
       → Put out 0 (listed s.state.phase s.state.unit (last_line left)) after r → r ≤ most → (Put out 0 (finishing (length out) s held) after r) × (r ≤ length out)
   unfolding finishing
   finish_listed left h e p k = (rw (le-ltb (length out) most h) (rw e at p), omega arith)
-
-pub left_passing : (p left x : Bool) → p ≡ true → left ≡ p → left ≡ either p x
-left_passing p left x e q = rw e (q ∙ e)
-
-pub left_held : (p left x : Bool) → p ≡ false → left ≡ x → left ≡ either p x
-left_held p left x e q = rw e q

@@ -122,5 +122,5 @@ pub fn finish(s: Session, unit: &[u8; 618], held: &[u8], out: &mut [u8]) -> usiz
     if out.len() < Phase::MOST {
         return 0;
     }
-    answers::at_end(s.hearer, s.passing || 0 < held.len(), unit, out)
+    answers::at_end(s.hearer, s.is_open(held), unit, out)
 }
