@@ -74,7 +74,7 @@ kept_count s u (multi a k t) e = rw e
 kept_count s u (ending a w t) e = rw e
 kept_count s u (assoc a w t) e = rw e
 
-step_fits : (rm : ℕ) (u : Value) (ev : List ℕ) → Ready u → ((i : ℕ) → octet ev i < 256) → Fits (step rm u ev)
+pub step_fits : (rm : ℕ) (u : Value) (ev : List ℕ) → Ready u → ((i : ℕ) → octet ev i < 256) → Fits (step rm u ev)
 unfolding step
 step_fits rm u ev r small =
     let n : length (take u.letters u.name) ≤ 32 = omega (arith, r.named, r.wide, length-take-le u.letters u.name (omega (arith, r.named, r.wide))) in

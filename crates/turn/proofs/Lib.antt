@@ -2,5 +2,6 @@ pub mod LineLaws
 pub mod MadeLaws
 pub mod MoveLaws
 pub mod PlaceLaws
+pub mod RoomLaws
 pub mod TableLaws
 pub mod TurnLaws

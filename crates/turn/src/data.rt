@@ -9,15 +9,14 @@ ghost use Rattle.turn.specs.Acts.{Acted};
 
 use crate::held::Held;
 use crate::message::Message;
-use crate::{ends, lines, moves};
+use crate::{ROOM, ends, lines, moves};
 use book::{Refusal, Verdict};
 
 // Confirmation 0.
-fn on_plain<H: Held>(u: &mut H, m: &Message, out: &mut [u8]) -> Verdict
+fn on_plain<H: Held>(u: &mut H, m: &Message, out: &mut [u8; ROOM]) -> Verdict
     requires ready { Ready (H.unit u.old) }
     requires taken { takes (H.unit u.old).state 6 ≡ true }
     requires confirmation { m.now.header.confirmation ≡ 0 }
-    requires room { 1024 ≤ length out.old }
     ensures { Acted (H.unit u.old) (on_dat (setup_of (H.unit u.old)) (good (frame_at m.now.frame.now m.now.header) m.now.extensions) (state_of (H.unit u.old))) out.old result (H.unit u.new) out.new }
 {
     let pen = lines::put_seen(out, m);
@@ -28,11 +27,10 @@ fn on_plain<H: Held>(u: &mut H, m: &Message, out: &mut [u8]) -> Verdict
 }
 
 // Confirmation 1: in Associated with an acknowledgement, in Ending without.
-fn on_sure<H: Held>(u: &mut H, m: &Message, out: &mut [u8]) -> Verdict
+fn on_sure<H: Held>(u: &mut H, m: &Message, out: &mut [u8; ROOM]) -> Verdict
     requires ready { Ready (H.unit u.old) }
     requires taken { takes (H.unit u.old).state 6 ≡ true }
     requires confirmation { m.now.header.confirmation ≡ 1 }
-    requires room { 1024 ≤ length out.old }
     ensures { Acted (H.unit u.old) (on_dat (setup_of (H.unit u.old)) (good (frame_at m.now.frame.now m.now.header) m.now.extensions) (state_of (H.unit u.old))) out.old result (H.unit u.new) out.new }
 {
     let pen = lines::put_seen(out, m);
@@ -50,11 +48,10 @@ fn on_sure<H: Held>(u: &mut H, m: &Message, out: &mut [u8]) -> Verdict
 }
 
 // Confirmation 2 to 4: an answer, if its reference waits.
-fn on_note<H: Held>(u: &mut H, m: &Message, out: &mut [u8]) -> Verdict
+fn on_note<H: Held>(u: &mut H, m: &Message, out: &mut [u8; ROOM]) -> Verdict
     requires ready { Ready (H.unit u.old) }
     requires taken { takes (H.unit u.old).state 6 ≡ true }
     requires confirmation { 2 ≤ m.now.header.confirmation }
-    requires room { 1024 ≤ length out.old }
     ensures { Acted (H.unit u.old) (on_dat (setup_of (H.unit u.old)) (good (frame_at m.now.frame.now m.now.header) m.now.extensions) (state_of (H.unit u.old))) out.old result (H.unit u.new) out.new }
 {
     let pen = lines::put_seen(out, m);
@@ -69,10 +66,9 @@ fn on_note<H: Held>(u: &mut H, m: &Message, out: &mut [u8]) -> Verdict
     lines::finished(done)
 }
 
-fn on_message<H: Held>(u: &mut H, m: &Message, out: &mut [u8]) -> Verdict
+fn on_message<H: Held>(u: &mut H, m: &Message, out: &mut [u8; ROOM]) -> Verdict
     requires ready { Ready (H.unit u.old) }
     requires taken { takes (H.unit u.old).state 6 ≡ true }
-    requires room { 1024 ≤ length out.old }
     ensures { Acted (H.unit u.old) (on_dat (setup_of (H.unit u.old)) (good (frame_at m.now.frame.now m.now.header) m.now.extensions) (state_of (H.unit u.old))) out.old result (H.unit u.new) out.new }
 {
     match m.header.confirmation {
@@ -82,9 +78,8 @@ fn on_message<H: Held>(u: &mut H, m: &Message, out: &mut [u8]) -> Verdict
     }
 }
 
-pub(crate) fn on_data<H: Held>(u: &mut H, frame: &[u8], out: &mut [u8]) -> Verdict
+pub(crate) fn on_data<H: Held>(u: &mut H, frame: &[u8], out: &mut [u8; ROOM]) -> Verdict
     requires ready { Ready (H.unit u.old) }
-    requires room { 1024 ≤ length out.old }
     ensures { Acted (H.unit u.old) (on_dat (setup_of (H.unit u.old)) (reading_in frame.now) (state_of (H.unit u.old))) out.old result (H.unit u.new) out.new }
 {
     if !moves::takes(u, 6) {

@@ -9,16 +9,16 @@ ghost use Rattle.said.specs.Saying.{said, maintains, doubts};
 ghost use Rattle.turn.specs.Acts.{Acted};
 
 use crate::held::Held;
-use crate::{lines, moves};
+use crate::{ROOM, lines, moves};
 use book::{Refusal, Verdict};
 use said::{Pen, Say};
 use state::sound;
 
 // Every waiting identifier answered uncertain.
-pub(crate) fn put_uncertain<H: Held>(out: &mut [u8], pen: Pen, u: &H) -> Pen
+pub(crate) fn put_uncertain<H: Held>(out: &mut [u8; ROOM], pen: Pen, u: &H) -> Pen
     requires ready { Ready (H.unit u.now) }
     requires lines { pen.lines ≤ 10 }
-    requires room { pen.at + 338 ≤ length out.old }
+    requires room { pen.at + 338 ≤ 1024 }
     ensures laid { Laid out.old pen (doubts (H.unit u.now)) out.new result }
     ensures place { result.at ≤ pen.at + 336 }
     ensures lines { result.lines ≤ pen.lines + 8 }
@@ -34,10 +34,10 @@ pub(crate) fn put_uncertain<H: Held>(out: &mut [u8], pen: Pen, u: &H) -> Pen
 }
 
 // A fall's lines after its 35: every waiting identifier answered uncertain, then 24.
-fn put_lost<H: Held>(out: &mut [u8], pen: Pen, u: &H, reason: u8) -> Pen
+fn put_lost<H: Held>(out: &mut [u8; ROOM], pen: Pen, u: &H, reason: u8) -> Pen
     requires ready { Ready (H.unit u.now) }
     requires lines { pen.lines ≤ 10 }
-    requires room { pen.at + 344 ≤ length out.old }
+    requires room { pen.at + 344 ≤ 1024 }
     ensures { Laid out.old pen (doubts (H.unit u.now) ++ said (gone reason ∷ [])) out.new result }
 {
     let next = put_uncertain(out, pen, u);
@@ -45,9 +45,8 @@ fn put_lost<H: Held>(out: &mut [u8], pen: Pen, u: &H, reason: u8) -> Pen
 }
 
 // A fall with its 35.
-pub(crate) fn fall<H: Held>(u: &mut H, out: &mut [u8], reason: u8) -> Verdict
+pub(crate) fn fall<H: Held>(u: &mut H, out: &mut [u8; ROOM], reason: u8) -> Verdict
     requires ready { Ready (H.unit u.old) }
-    requires room { 1024 ≤ length out.old }
     ensures { Acted (H.unit u.old) (Book.fall (setup_of (H.unit u.old)) (maintains (state_of (H.unit u.old))) (waiting_of (state_of (H.unit u.old))) reason) out.old result (H.unit u.new) out.new }
 {
     let pen = lines::put_two(out, Pen { at: 0, lines: 0 }, 0x35, reason);
@@ -57,9 +56,8 @@ pub(crate) fn fall<H: Held>(u: &mut H, out: &mut [u8], reason: u8) -> Verdict
 }
 
 // 15, 16
-pub(crate) fn on_abort<H: Held>(u: &mut H, out: &mut [u8], reason: u8) -> Verdict
+pub(crate) fn on_abort<H: Held>(u: &mut H, out: &mut [u8; ROOM], reason: u8) -> Verdict
     requires ready { Ready (H.unit u.old) }
-    requires room { 1024 ≤ length out.old }
     ensures { Acted (H.unit u.old) (on_abort (setup_of (H.unit u.old)) reason (state_of (H.unit u.old))) out.old result (H.unit u.new) out.new }
 {
     if !moves::takes(u, 9) {
@@ -71,9 +69,8 @@ pub(crate) fn on_abort<H: Held>(u: &mut H, out: &mut [u8], reason: u8) -> Verdic
 }
 
 // 03
-pub(crate) fn on_end<H: Held>(u: &mut H, out: &mut [u8]) -> Verdict
+pub(crate) fn on_end<H: Held>(u: &mut H, out: &mut [u8; ROOM]) -> Verdict
     requires ready { Ready (H.unit u.old) }
-    requires room { 1024 ≤ length out.old }
     ensures { Acted (H.unit u.old) (on_end (state_of (H.unit u.old))) out.old result (H.unit u.new) out.new }
 {
     if !moves::takes(u, 2) {
@@ -85,9 +82,8 @@ pub(crate) fn on_end<H: Held>(u: &mut H, out: &mut [u8]) -> Verdict
 }
 
 // 04
-pub(crate) fn on_tick<H: Held>(u: &mut H, out: &mut [u8]) -> Verdict
+pub(crate) fn on_tick<H: Held>(u: &mut H, out: &mut [u8; ROOM]) -> Verdict
     requires ready { Ready (H.unit u.old) }
-    requires room { 1024 ≤ length out.old }
     ensures { Acted (H.unit u.old) (on_tick (setup_of (H.unit u.old)) (late (setup_of (H.unit u.old)) (state_of (H.unit u.old))) (state_of (H.unit u.old))) out.old result (H.unit u.new) out.new }
 {
     let s = u.state();
@@ -109,9 +105,8 @@ pub(crate) fn on_tick<H: Held>(u: &mut H, out: &mut [u8]) -> Verdict
 }
 
 // 13
-pub(crate) fn on_end_asked<H: Held>(u: &mut H, out: &mut [u8]) -> Verdict
+pub(crate) fn on_end_asked<H: Held>(u: &mut H, out: &mut [u8; ROOM]) -> Verdict
     requires ready { Ready (H.unit u.old) }
-    requires room { 1024 ≤ length out.old }
     ensures { Acted (H.unit u.old) (on_fin (setup_of (H.unit u.old)) (state_of (H.unit u.old))) out.old result (H.unit u.new) out.new }
 {
     if !moves::takes(u, 7) {
@@ -125,9 +120,8 @@ pub(crate) fn on_end_asked<H: Held>(u: &mut H, out: &mut [u8]) -> Verdict
 }
 
 // 14
-pub(crate) fn on_end_answered<H: Held>(u: &mut H, out: &mut [u8], accepted: bool) -> Verdict
+pub(crate) fn on_end_answered<H: Held>(u: &mut H, out: &mut [u8; ROOM], accepted: bool) -> Verdict
     requires ready { Ready (H.unit u.old) }
-    requires room { 1024 ≤ length out.old }
     ensures { Acted (H.unit u.old) (on_fin_ok (setup_of (H.unit u.old)) accepted (state_of (H.unit u.old))) out.old result (H.unit u.new) out.new }
 {
     if !moves::takes(u, 8) {

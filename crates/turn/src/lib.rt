@@ -24,10 +24,12 @@ mod starts;
 mod stores;
 mod value;
 
+// The octets of the lent buffer that an event's lines may take.
+const ROOM: usize = 1024;
+
 // An event that a sound unit gets.
-fn act<H: Held>(u: &mut H, event: &[u8], out: &mut [u8]) -> Verdict
+fn act<H: Held>(u: &mut H, event: &[u8], out: &mut [u8; ROOM]) -> Verdict
     requires ready { Ready (H.unit u.old) }
-    requires room { 1024 ≤ length out.old }
     ensures { Acted (H.unit u.old) (does (setup_of (H.unit u.old)) (event_of event.now) (drop (frame_from (event_of event.now)) event.now) (state_of (H.unit u.old))) out.old result (H.unit u.new) out.new }
 {
     match events::event_of(event) {
@@ -51,13 +53,13 @@ fn act<H: Held>(u: &mut H, event: &[u8], out: &mut [u8]) -> Verdict
 pub fn handle<H: Held>(u: &mut H, event: &[u8], out: &mut [u8]) -> Verdict
     ensures { Acted (H.unit u.old) (step (length out.old) (H.unit u.old) event.now) out.old result (H.unit u.new) out.new }
 {
-    if out.len() < 1024 {
+    let Some(lines) = out.first_chunk_mut::<ROOM>() else {
         return Err(Refusal::NoRoom);
-    }
+    };
     if !sound::sound(u) {
         return Err(Refusal::Unsound);
     }
-    act(u, event, out)
+    act(u, event, lines)
 }
 
 // The lent unit becomes a new one: its limits in ticks, and its name. Refusal 7, and a unit with every number 0, where they are out of range.

@@ -10,7 +10,7 @@ ghost use Rattle.turn.specs.Acts.{Acted};
 
 use crate::held::Held;
 use crate::message::{Message, Request};
-use crate::{lines, moves};
+use crate::{ROOM, lines, moves};
 use book::{Refusal, Terms, Verdict};
 use said::Pen;
 
@@ -25,10 +25,9 @@ fn join<H: Held>(u: &mut H, r: &Request)
 }
 
 // A single-shot request in Idle.
-fn on_idle_single<H: Held>(u: &mut H, r: &Request, out: &mut [u8]) -> Verdict
+fn on_idle_single<H: Held>(u: &mut H, r: &Request, out: &mut [u8; ROOM]) -> Verdict
     requires ready { Ready (H.unit u.old) }
     requires in_state { (H.unit u.old).state ≡ 0 }
-    requires room { 1024 ≤ length out.old }
     ensures { Acted (H.unit u.old) (on_single r.now.terms (msg_at r.now.message.frame.now r.now.message.header) (state_of (H.unit u.old))) out.old result (H.unit u.new) out.new }
 {
     let t = said::settle(r.terms);
@@ -39,10 +38,9 @@ fn on_idle_single<H: Held>(u: &mut H, r: &Request, out: &mut [u8]) -> Verdict
 }
 
 // A multi-shot request in Idle: its frame is kept.
-fn on_idle_multi<H: Held>(u: &mut H, r: &Request, out: &mut [u8]) -> Verdict
+fn on_idle_multi<H: Held>(u: &mut H, r: &Request, out: &mut [u8; ROOM]) -> Verdict
     requires ready { Ready (H.unit u.old) }
     requires in_state { (H.unit u.old).state ≡ 0 }
-    requires room { 1024 ≤ length out.old }
     ensures { Acted (H.unit u.old) (on_multi (bar r.now.terms (msg_at r.now.message.frame.now r.now.message.header) (state_of (H.unit u.old))) r.now.terms (msg_at r.now.message.frame.now r.now.message.header) (state_of (H.unit u.old))) out.old result (H.unit u.new) out.new }
 {
     let t = said::settle(r.terms);
@@ -54,12 +52,11 @@ fn on_idle_multi<H: Held>(u: &mut H, r: &Request, out: &mut [u8]) -> Verdict
 }
 
 // A multi-shot request in Associated with the dialogue's terms, confirmation 0.
-fn on_next_plain<H: Held>(u: &mut H, r: &Request, out: &mut [u8]) -> Verdict
+fn on_next_plain<H: Held>(u: &mut H, r: &Request, out: &mut [u8; ROOM]) -> Verdict
     requires ready { Ready (H.unit u.old) }
     requires in_state { (H.unit u.old).state ≡ 4 }
     requires confirmation { r.now.message.header.confirmation ≡ 0 }
     requires same { same_terms (settled r.now.terms) (H.unit u.old).terms ≡ true }
-    requires room { 1024 ≤ length out.old }
     ensures { Acted (H.unit u.old) (on_multi (bar r.now.terms (msg_at r.now.message.frame.now r.now.message.header) (state_of (H.unit u.old))) r.now.terms (msg_at r.now.message.frame.now r.now.message.header) (state_of (H.unit u.old))) out.old result (H.unit u.new) out.new }
 {
     let done = lines::put_framed(out, Pen { at: 0, lines: 0 }, 0x32, &r.message);
@@ -68,12 +65,11 @@ fn on_next_plain<H: Held>(u: &mut H, r: &Request, out: &mut [u8]) -> Verdict
 }
 
 // Confirmation 1: refusals 4 and 5, or its identifier waits.
-fn on_next_sure<H: Held>(u: &mut H, r: &Request, out: &mut [u8]) -> Verdict
+fn on_next_sure<H: Held>(u: &mut H, r: &Request, out: &mut [u8; ROOM]) -> Verdict
     requires ready { Ready (H.unit u.old) }
     requires in_state { (H.unit u.old).state ≡ 4 }
     requires confirmation { r.now.message.header.confirmation ≡ 1 }
     requires same { same_terms (settled r.now.terms) (H.unit u.old).terms ≡ true }
-    requires room { 1024 ≤ length out.old }
     ensures { Acted (H.unit u.old) (on_multi (bar r.now.terms (msg_at r.now.message.frame.now r.now.message.header) (state_of (H.unit u.old))) r.now.terms (msg_at r.now.message.frame.now r.now.message.header) (state_of (H.unit u.old))) out.old result (H.unit u.new) out.new }
 {
     let id = r.message.identifier();
@@ -91,10 +87,9 @@ fn on_next_sure<H: Held>(u: &mut H, r: &Request, out: &mut [u8]) -> Verdict
 
 // A multi-shot request in Associated.
 #[tactic(auto, unfolding(book::specs::Book::same_terms))]
-fn on_next<H: Held>(u: &mut H, r: &Request, out: &mut [u8]) -> Verdict
+fn on_next<H: Held>(u: &mut H, r: &Request, out: &mut [u8; ROOM]) -> Verdict
     requires ready { Ready (H.unit u.old) }
     requires in_state { (H.unit u.old).state ≡ 4 }
-    requires room { 1024 ≤ length out.old }
     ensures { Acted (H.unit u.old) (on_multi (bar r.now.terms (msg_at r.now.message.frame.now r.now.message.header) (state_of (H.unit u.old))) r.now.terms (msg_at r.now.message.frame.now r.now.message.header) (state_of (H.unit u.old))) out.old result (H.unit u.new) out.new }
 {
     let t = said::settle(r.terms);
@@ -109,9 +104,8 @@ fn on_next<H: Held>(u: &mut H, r: &Request, out: &mut [u8]) -> Verdict
 }
 
 // A multi-shot request.
-fn on_multi<H: Held>(u: &mut H, r: &Request, out: &mut [u8]) -> Verdict
+fn on_multi<H: Held>(u: &mut H, r: &Request, out: &mut [u8; ROOM]) -> Verdict
     requires ready { Ready (H.unit u.old) }
-    requires room { 1024 ≤ length out.old }
     ensures { Acted (H.unit u.old) (on_multi (bar r.now.terms (msg_at r.now.message.frame.now r.now.message.header) (state_of (H.unit u.old))) r.now.terms (msg_at r.now.message.frame.now r.now.message.header) (state_of (H.unit u.old))) out.old result (H.unit u.new) out.new }
 {
     if !moves::takes(u, 1) {
@@ -124,9 +118,8 @@ fn on_multi<H: Held>(u: &mut H, r: &Request, out: &mut [u8]) -> Verdict
 }
 
 // A single-shot request.
-fn on_single<H: Held>(u: &mut H, r: &Request, out: &mut [u8]) -> Verdict
+fn on_single<H: Held>(u: &mut H, r: &Request, out: &mut [u8; ROOM]) -> Verdict
     requires ready { Ready (H.unit u.old) }
-    requires room { 1024 ≤ length out.old }
     ensures { Acted (H.unit u.old) (on_single r.now.terms (msg_at r.now.message.frame.now r.now.message.header) (state_of (H.unit u.old))) out.old result (H.unit u.new) out.new }
 {
     if !moves::takes(u, 0) {
@@ -141,10 +134,9 @@ pub(crate) fn on_request<H: Held>(
     confirmed: bool,
     terms: Terms,
     frame: &[u8],
-    out: &mut [u8],
+    out: &mut [u8; ROOM],
 ) -> Verdict
     requires ready { Ready (H.unit u.old) }
-    requires room { 1024 ≤ length out.old }
     ensures { Acted (H.unit u.old) (on_request confirmed terms (reading_in frame.now) (state_of (H.unit u.old))) out.old result (H.unit u.new) out.new }
 {
     let Ok(message) = Message::read(frame) else {

@@ -10,15 +10,14 @@ ghost use Rattle.turn.specs.Acts.{Acted};
 
 use crate::held::Held;
 use crate::message::Message;
-use crate::{ends, lines, moves};
+use crate::{ROOM, ends, lines, moves};
 use book::{Refusal, Terms, Verdict};
 use said::{Pen, Say};
 
 // A valid frame that is not expected here: 35 reason 10, and the unit stays.
-fn cut_off<H: Held>(u: &H, m: &Message, out: &mut [u8]) -> Verdict
+fn cut_off<H: Held>(u: &H, m: &Message, out: &mut [u8; ROOM]) -> Verdict
     requires ready { Ready (H.unit u.now) }
     requires in_state { (H.unit u.now).state ≡ 0 }
-    requires room { 1024 ≤ length out.old }
     ensures { Acted (H.unit u.now) (done idle (with_seen m.now.extensions (send (cut 10) ∷ []))) out.old result (H.unit u.now) out.new }
 {
     let pen = lines::put_seen(out, m);
@@ -27,12 +26,11 @@ fn cut_off<H: Held>(u: &H, m: &Message, out: &mut [u8]) -> Verdict
 }
 
 // A single-shot message, given to the user: 31 rejected, for confirmation 1 with an acknowledgement.
-fn on_single_shot<H: Held>(u: &H, a: Terms, m: &Message, out: &mut [u8]) -> Verdict
+fn on_single_shot<H: Held>(u: &H, a: Terms, m: &Message, out: &mut [u8; ROOM]) -> Verdict
     requires ready { Ready (H.unit u.now) }
     requires in_state { (H.unit u.now).state ≡ 0 }
     requires confirmation { m.now.header.confirmation < 2 }
     requires single { m.now.header.multi_shot ≡ false }
-    requires room { 1024 ≤ length out.old }
     ensures { Acted (H.unit u.now) (greeted (setup_of (H.unit u.now)) a (frame_at m.now.frame.now m.now.header) m.now.extensions) out.old result (H.unit u.now) out.new }
 {
     let pen = lines::put_seen(out, m);
@@ -48,10 +46,9 @@ fn on_single_shot<H: Held>(u: &H, a: Terms, m: &Message, out: &mut [u8]) -> Verd
 }
 
 // 10 with a valid frame.
-fn on_greeted<H: Held>(u: &H, a: Terms, m: &Message, out: &mut [u8]) -> Verdict
+fn on_greeted<H: Held>(u: &H, a: Terms, m: &Message, out: &mut [u8; ROOM]) -> Verdict
     requires ready { Ready (H.unit u.now) }
     requires in_state { (H.unit u.now).state ≡ 0 }
-    requires room { 1024 ≤ length out.old }
     ensures { Acted (H.unit u.now) (greeted (setup_of (H.unit u.now)) a (frame_at m.now.frame.now m.now.header) m.now.extensions) out.old result (H.unit u.now) out.new }
 {
     if 1 < m.header.confirmation {
@@ -64,10 +61,9 @@ fn on_greeted<H: Held>(u: &H, a: Terms, m: &Message, out: &mut [u8]) -> Verdict
 }
 
 // 10 without a frame.
-fn on_opened<H: Held>(u: &mut H, a: Terms, out: &mut [u8]) -> Verdict
+fn on_opened<H: Held>(u: &mut H, a: Terms, out: &mut [u8; ROOM]) -> Verdict
     requires ready { Ready (H.unit u.old) }
     requires in_state { (H.unit u.old).state ≡ 0 }
-    requires room { 1024 ≤ length out.old }
     ensures { Acted (H.unit u.old) (first_contact (setup_of (H.unit u.old)) a None) out.old result (H.unit u.new) out.new }
 {
     let done = lines::put_two(out, Pen { at: 0, lines: 0 }, 0x31, 0);
@@ -76,10 +72,9 @@ fn on_opened<H: Held>(u: &mut H, a: Terms, out: &mut [u8]) -> Verdict
 }
 
 // 10 with a faulty frame: 35 with the fault, and the unit stays.
-fn on_faulty_start<H: Held>(u: &H, reason: u8, out: &mut [u8]) -> Verdict
+fn on_faulty_start<H: Held>(u: &H, reason: u8, out: &mut [u8; ROOM]) -> Verdict
     requires ready { Ready (H.unit u.now) }
     requires in_state { (H.unit u.now).state ≡ 0 }
-    requires room { 1024 ≤ length out.old }
     ensures { Acted (H.unit u.now) (done idle (send (cut reason) ∷ [])) out.old result (H.unit u.now) out.new }
 {
     let done = lines::put_two(out, Pen { at: 0, lines: 0 }, 0x35, reason);
@@ -87,9 +82,8 @@ fn on_faulty_start<H: Held>(u: &H, reason: u8, out: &mut [u8]) -> Verdict
 }
 
 // 10
-pub(crate) fn on_start<H: Held>(u: &mut H, a: Terms, frame: &[u8], out: &mut [u8]) -> Verdict
+pub(crate) fn on_start<H: Held>(u: &mut H, a: Terms, frame: &[u8], out: &mut [u8; ROOM]) -> Verdict
     requires ready { Ready (H.unit u.old) }
-    requires room { 1024 ≤ length out.old }
     ensures { Acted (H.unit u.old) (on_start (setup_of (H.unit u.old)) a (or_nothing frame.now) (state_of (H.unit u.old))) out.old result (H.unit u.new) out.new }
 {
     if !moves::takes(u, 4) {
@@ -105,11 +99,10 @@ pub(crate) fn on_start<H: Held>(u: &mut H, a: Terms, frame: &[u8], out: &mut [u8
 }
 
 // The one that waits in Start-single answered uncertain.
-fn on_unanswered<H: Held>(u: &mut H, out: &mut [u8]) -> Verdict
+fn on_unanswered<H: Held>(u: &mut H, out: &mut [u8; ROOM]) -> Verdict
     requires ready { Ready (H.unit u.old) }
     requires in_state { (H.unit u.old).state ≡ 1 }
     requires waits { 1 ≤ (H.unit u.old).count }
-    requires room { 1024 ≤ length out.old }
     ensures { Acted (H.unit u.old) (on_reply (setup_of (H.unit u.old)) false None (state_of (H.unit u.old))) out.old result (H.unit u.new) out.new }
 {
     let say = Say {
@@ -123,11 +116,10 @@ fn on_unanswered<H: Held>(u: &mut H, out: &mut [u8]) -> Verdict
 }
 
 // The one that waits in Start-single answered by a valid frame.
-fn on_answered<H: Held>(u: &mut H, m: &Message, out: &mut [u8]) -> Verdict
+fn on_answered<H: Held>(u: &mut H, m: &Message, out: &mut [u8; ROOM]) -> Verdict
     requires ready { Ready (H.unit u.old) }
     requires in_state { (H.unit u.old).state ≡ 1 }
     requires waits { 1 ≤ (H.unit u.old).count }
-    requires room { 1024 ≤ length out.old }
     ensures { Acted (H.unit u.old) (on_reply (setup_of (H.unit u.old)) false (Some (good (frame_at m.now.frame.now m.now.header) m.now.extensions)) (state_of (H.unit u.old))) out.old result (H.unit u.new) out.new }
 {
     let pen = lines::put_seen(out, m);
@@ -137,10 +129,9 @@ fn on_answered<H: Held>(u: &mut H, m: &Message, out: &mut [u8]) -> Verdict
 }
 
 // 11 rejected in Start-single.
-fn on_single_answer<H: Held>(u: &mut H, frame: &[u8], out: &mut [u8]) -> Verdict
+fn on_single_answer<H: Held>(u: &mut H, frame: &[u8], out: &mut [u8; ROOM]) -> Verdict
     requires ready { Ready (H.unit u.old) }
     requires in_state { (H.unit u.old).state ≡ 1 }
-    requires room { 1024 ≤ length out.old }
     ensures { Acted (H.unit u.old) (on_reply (setup_of (H.unit u.old)) false (or_nothing frame.now) (state_of (H.unit u.old))) out.old result (H.unit u.new) out.new }
 {
     if u.count() == 0 {
@@ -157,10 +148,9 @@ fn on_single_answer<H: Held>(u: &mut H, frame: &[u8], out: &mut [u8]) -> Verdict
 }
 
 // 11 accepted in Start-multi, without a frame: the kept frame goes out.
-fn on_begun<H: Held>(u: &mut H, out: &mut [u8]) -> Verdict
+fn on_begun<H: Held>(u: &mut H, out: &mut [u8; ROOM]) -> Verdict
     requires ready { Ready (H.unit u.old) }
     requires in_state { (H.unit u.old).state ≡ 2 }
-    requires room { 1024 ≤ length out.old }
     ensures { Acted (H.unit u.old) (on_reply (setup_of (H.unit u.old)) true None (state_of (H.unit u.old))) out.old result (H.unit u.new) out.new }
 {
     let done = lines::put_kept(out, Pen { at: 0, lines: 0 }, u);
@@ -170,10 +160,9 @@ fn on_begun<H: Held>(u: &mut H, out: &mut [u8]) -> Verdict
 }
 
 // 11 rejected in Start-multi.
-fn on_turned_down<H: Held>(u: &mut H, out: &mut [u8]) -> Verdict
+fn on_turned_down<H: Held>(u: &mut H, out: &mut [u8; ROOM]) -> Verdict
     requires ready { Ready (H.unit u.old) }
     requires in_state { (H.unit u.old).state ≡ 2 }
-    requires room { 1024 ≤ length out.old }
     ensures { Acted (H.unit u.old) (on_reply (setup_of (H.unit u.old)) false None (state_of (H.unit u.old))) out.old result (H.unit u.new) out.new }
 {
     let say = Say {
@@ -189,10 +178,14 @@ fn on_turned_down<H: Held>(u: &mut H, out: &mut [u8]) -> Verdict
 }
 
 // 11 in Start-multi.
-fn on_multi_answer<H: Held>(u: &mut H, accepted: bool, frame: &[u8], out: &mut [u8]) -> Verdict
+fn on_multi_answer<H: Held>(
+    u: &mut H,
+    accepted: bool,
+    frame: &[u8],
+    out: &mut [u8; ROOM],
+) -> Verdict
     requires ready { Ready (H.unit u.old) }
     requires in_state { (H.unit u.old).state ≡ 2 }
-    requires room { 1024 ≤ length out.old }
     ensures { Acted (H.unit u.old) (on_reply (setup_of (H.unit u.old)) accepted (or_nothing frame.now) (state_of (H.unit u.old))) out.old result (H.unit u.new) out.new }
 {
     if accepted {
@@ -205,9 +198,13 @@ fn on_multi_answer<H: Held>(u: &mut H, accepted: bool, frame: &[u8], out: &mut [
 }
 
 // 11
-pub(crate) fn on_reply<H: Held>(u: &mut H, accepted: bool, frame: &[u8], out: &mut [u8]) -> Verdict
+pub(crate) fn on_reply<H: Held>(
+    u: &mut H,
+    accepted: bool,
+    frame: &[u8],
+    out: &mut [u8; ROOM],
+) -> Verdict
     requires ready { Ready (H.unit u.old) }
-    requires room { 1024 ≤ length out.old }
     ensures { Acted (H.unit u.old) (on_reply (setup_of (H.unit u.old)) accepted (or_nothing frame.now) (state_of (H.unit u.old))) out.old result (H.unit u.new) out.new }
 {
     if !moves::takes(u, 5) {

@@ -1,15 +1,25 @@
--- `turn::handle` meets its contract. Closed by laws of StepLaws and TurnLaws, one for each way out.
+-- `turn::handle` meets its contract. Closed by laws of StepLaws and RoomLaws, one for each way out.
 use Rattle.turn_laws.proofs.StepLaws.{step_small, step_unsound, step_does}
 use Rattle.turn_laws.proofs.Gave.{turned_as}
+use Rattle.room_laws.proofs.Room.{step_fits}
+use Rattle.turn.proofs.RoomLaws.{in_front, fits_short, refused_short}
 use Rattle.turn.proofs.TurnLaws.{refused_in_place}
 use mathlib.Core.Path.{refl}
+use native.Mathlib.Omega.{arith}
 use Rattle.turn.proofs.handle.Goals as goal
 
-pub returns-then-out-lt1024 : goal.returns-then-out-lt1024
-returns-then-out-lt1024 g c = refused_in_place _ (step_small _ (g.H.Seen.unit c.args.u.now) c.args.event.now c.if-out-lt1024.true) refl
+pub returns-in_default : goal.returns-in_default
+returns-in_default g c = refused_in_place _ (step_small _ (g.H.Seen.unit c.args.u.now) c.args.event.now c.in_default.ensures.cases) refl
 
 pub returns-then-not-sound : goal.returns-then-not-sound
-returns-then-not-sound g c = refused_in_place _ (step_unsound _ (g.H.Seen.unit c.args.u.now) c.args.event.now c.if-out-lt1024.false c.sound.ensures.value c.if-not-sound.true) refl
+returns-then-not-sound g c =
+    let k = c.in-Some.ensures.cases in
+    let e = step_unsound _ (g.H.Seen.unit c.args.u.now) c.args.event.now k.enough c.sound.ensures.value c.if-not-sound.true in
+    in_front c.args.out.now k.enough k.same (refused_short e) (refused_in_place _ e refl)
 
 pub returns : goal.returns
-returns g c = turned_as (step_does _ (g.H.Seen.unit c.args.u.now) c.args.event.now c.if-out-lt1024.false c.sound.ensures.value c.if-not-sound.false refl) c.act.ensures
+returns g c =
+    let k = c.in-Some.ensures.cases in
+    let e = step_does _ (g.H.Seen.unit c.args.u.now) c.args.event.now k.enough c.sound.ensures.value c.if-not-sound.false refl in
+    let f = step_fits _ (g.H.Seen.unit c.args.u.now) c.args.event.now c.if-not-sound.ensures.ready (λ i. omega (arith, c.type_inv.event i)) in
+    in_front c.args.out.now k.enough k.same (fits_short f) (turned_as e c.act.ensures)
