@@ -83,8 +83,8 @@ say(4, 'own words for && and || (both, either)', found(r'\b(both|either)\(', ski
 say(4, 'equality, conversion and number functions by hand', found(
     r'fn (alike|is_stopped|wide|wide16|wide_16|high|low|two|two_at|least|past|power|bit_of|joined|fault_number|refusal_number|octet_at|both|either|half|has_octet|has_number)\b'))
 say(5, 'clauses `length u ≡ 618`', found(r'length (u|unit|image)\.(old|now) ≡ 618'))
-say(5, 'clauses `Ready ..`', found(r'\(Ready '))
-say(5, 'clauses `Reads frame h n`', found(r'\(?Reads frame'))
+say(5, 'clauses `Ready ..`', found(r'\bReady \(', skip='ghost use'))
+say(5, 'clauses `Reads frame h n`', found(r'\bReads (\w+\.)*frame'))
 say(5, 'clauses `1024 ≤ length out`', found(r'1024 ≤ length out'))
 say(5, 'clauses `at + N ≤ length out`', found(r'at \+ [^≤×]*≤ length out'))
 say(5, 'parameters frame, header, extensions together', found(r'frame: &\[u8\], h: Header, n: usize'))

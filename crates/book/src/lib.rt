@@ -12,7 +12,8 @@ pub struct Terms {
     pub rer: u8,
 }
 
-// A unit, held by the caller. What a state does not use is 0. Arrays with a length beside them: fixed memory is a rule here, and C holds this struct.
+// A unit, held by the caller. What a state does not use is 0. Arrays with a length beside them: memory is fixed here, 01 names the waiting list's form, and
+// a caller's unit may have any length, which refusal 9 speaks of (`sound_of`).
 #[derive(Clone, Copy)]
 pub struct Unit {
     // The unit's name, in the first `letters` places.

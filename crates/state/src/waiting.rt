@@ -2,7 +2,8 @@
 ghost use Rattle.std.specs.Prelude.{◌≡◌, take, set};
 ghost use Rattle.book.specs.Waiting.{place_of, closed};
 
-// Where an identifier stands among the first n.
+// Where an identifier stands among the first n. The engine asks through `Seen` (turn, `moves::find`); this stays, since docs/PROMISES.md names it, for any
+// list and any n, and so does `with_one`.
 pub fn find(w: [u16; 8], n: usize, id: u16) -> Option<usize>
     ensures { result ≡ place_of id 0 (take n w) }
 {
