@@ -1,6 +1,6 @@
 -- What the functions over a sound unit ask of it, and those over a frame that was read ask of the frame. A sound unit is ready (crate state,
 -- proofs/Sounds); a frame whose reading is whole reads so (proofs/Views).
--- No public contract speaks of this file, only contracts of functions inside a crate: a reader of 01 may skip it.
+-- Of public contracts only `state::sound::sound` (a sound unit is ready) and the moves of crate turn's `Held` speak of it: a reader of 01 may skip it.
 use Rattle.std.specs.Prelude.{ℕ, ◌≤◌, ◌<◌, ◌≡◌, List, length, Ok}
 use Rattle.frame.specs.declared.Header.{Header}
 use Rattle.frame.specs.Reading.{octet, reading_of}

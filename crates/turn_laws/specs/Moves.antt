@@ -1,5 +1,5 @@
 -- What the code's small functions make of a unit: one move each.
--- No public contract speaks of this file, only contracts of functions inside a crate: a reader of 01 may skip it.
+-- Of public contracts only the moves of crate turn's `Held` speak of this file: a reader of 01 may skip it.
 use Rattle.std.specs.Prelude.{ℕ, ◌+◌, ◌-◌, List, [], ◌∷◌, length, set, replicate, eqb}
 use Rattle.octets.specs.Choice.{pick}
 use Rattle.book.specs.Picture.{no_terms, padded}
