@@ -1,5 +1,5 @@
 -- A turn over a lent unit: what `Turned` says of a unit by value, said of the unit before and after.
--- No public contract of the engines speaks of this file, only contracts inside them: a reader of 01 may skip it.
+-- Of public contracts only `handle` and `setup` of this crate speak of this file; those of `unit` and `engine` are in book's and image's words.
 use Rattle.std.specs.Prelude.{ℕ, ◌≤◌, ◌≡◌, get_or, List, Result}
 use Rattle.book.specs.Book.{Outcome}
 use Rattle.book.specs.Step.{Turned}
