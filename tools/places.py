@@ -62,7 +62,7 @@ E = enums()
 say(1, 'enums of two variants, one or both with a value', [f'{f}: {n} {v}' for f, n, v in E if len(v) == 2 and any('()' in x for x in v)])
 say(1, 'flags with a value beside them (has_x or present, and its value)', found(r'\b(has_\w+|present): bool'))
 say(1, 'refusals by number (Refused(3), refuse(u, 3), a number 0 for none)', found(r'Refused\((0x)?\d+\)|refuse\(\w+, \d+\)|fn (turned_away|refusal_in)\b'))
-say(1, 'kinds by number (arms of a match on octets)', found(r'^\s*0x[0-9a-f]{2} =>'))
+say(1, 'kinds by number (arms of a match on octets)', found(r'^\s*\[?0x[0-9a-f]{2}\b[^=]*=>|^\s*\[0x[0-9a-f]{2}\b.*\.\.[^=]*=>'))
 say(1, 'states by number (compared with a literal)', found(r'\b(s|state|state\(u\)|u\.state|state\(\)) (==|!=|<) \d\b|\b\d < (s|state|u\.state)\b'))
 
 by_name = defaultdict(list)
