@@ -1,33 +1,39 @@
 -- Laws of the by-value engine over an image: each way out of an event, and the number of its answer.
+use Rattle.std.specs.Prelude.{Result, Ok, Err, is_ok}
 use Prim.Native.Nat.{ℕ, ◌<◌, ◌≤◌}
-use mathlib.Core.Path.{◌≡◌}
+use mathlib.Core.Path.{◌≡◌, refl, sym}
+use mathlib.Core.Bool.{true, false}
 use mathlib.Core.List.{List}
 use borrow.Author.Tests.{lt-ltb, le-ltb, eq-eqb, ne_eqb}
 use lib.ListN.{length}
 use Rattle.book.specs.Step.{step, octets_of, turn_of, Turned}
 use Rattle.book.specs.declared.Unit.{Unit as Value}
 use Rattle.book.specs.declared.Turn.{Turn}
-use Rattle.book.specs.declared.Verdict.{Verdict}
-use Rattle.book.specs.declared.Verdict.TheVariants.{Done, Refused}
+use Rattle.book.specs.declared.Done.{Done}
+use Rattle.book.specs.declared.Refusal.{Refusal}
+use Rattle.book.specs.declared.Refusal.TheVariants.{NoRoom, Unsound}
+use Rattle.turn_laws.proofs.Moved.{not_taken}
 use Rattle.image.specs.Image.{unit_of, image_of}
 use Rattle.image.specs.Answer.{outcome_on, image_after, Handled}
 use Rattle.by_value.specs.Numbered.{refusal_in, Numbered}
 
 -- ---- the image
 
-pub settled : {v : Verdict} {n k : ℕ} (image : List ℕ) (u : Value) {after : List ℕ} → v ≡ Done n k → after ≡ image_of u → after ≡ image_after image u v
+pub settled : (v : Result Done Refusal) (image : List ℕ) (u : Value) {after : List ℕ} → is_ok v ≡ true → after ≡ image_of u → after ≡ image_after image u v
 unfolding image_after
-settled image u e h = rw e h
+settled (Ok d) image u e h = h
+settled (Err r) image u e h = not_taken e
 
-pub left_as_was : {v : Verdict} {n : ℕ} (image : List ℕ) (u : Value) → v ≡ Refused n → image ≡ image_after image u v
+pub left_as_was : (v : Result Done Refusal) (image : List ℕ) (u : Value) → is_ok v ≡ false → image ≡ image_after image u v
 unfolding image_after
-left_as_was image u e = rw e
+left_as_was (Ok d) image u e = not_taken (sym e)
+left_as_was (Err r) image u e = refl
 
 -- ---- an event
 
 module _ (image ev out : List ℕ) where
   -- 6
-  pub event_short : length out < 1024 → Handled image ev out (Refused 6) image out
+  pub event_short : length out < 1024 → Handled image ev out (Err NoRoom) image out
   unfolding outcome_on turn_of image_after octets_of
   event_short h = record {
     verdict = rw (lt-ltb (length out) 1024 h);
@@ -36,7 +42,7 @@ module _ (image ev out : List ℕ) where
   }
 
   -- 9
-  pub event_none : 1024 ≤ length out → (length image ≡ 618 → ⊥) → Handled image ev out (Refused 9) image out
+  pub event_none : 1024 ≤ length out → (length image ≡ 618 → ⊥) → Handled image ev out (Err Unsound) image out
   unfolding outcome_on turn_of image_after octets_of
   event_none h n = record {
     verdict = rw (le-ltb (length out) 1024 h, ne_eqb (length image) 618 n);
@@ -61,13 +67,5 @@ module _ (image ev out : List ℕ) where
 
   -- ---- the number of an answer
 
-  pub numbered : {v : Verdict} {r : ℕ} {after out' : List ℕ} → Handled image ev out v after out' → r ≡ refusal_in v → Numbered image ev out r after out'
+  pub numbered : {v : Result Done Refusal} {r : ℕ} {after out' : List ℕ} → Handled image ev out v after out' → r ≡ refusal_in v → Numbered image ev out r after out'
   numbered h e = record { number = rw h.verdict at e; image = h.image; buffer = h.buffer }
-
-pub none_refused : {v : Verdict} {n k : ℕ} → v ≡ Done n k → 0 ≡ refusal_in v
-unfolding refusal_in
-none_refused e = rw e
-
-pub refused_by : {v : Verdict} {n : ℕ} → v ≡ Refused n → n ≡ refusal_in v
-unfolding refusal_in
-refused_by e = rw e

@@ -5,6 +5,12 @@ use Rattle.octets.specs.Contract.{Leaves}
 use Rattle.frame.proofs.read.Reads as read
 use Rattle.frame.proofs.U8FromFault.from.Reads as fault-number
 use Rattle.frame.proofs.U8FromRefusal.from.Reads as refusal-number
+use Rattle.frame.proofs.RefusalFromFault.from.Reads as refusal
+use Rattle.frame.proofs.FaultPartialEq.eq.Reads as fault-eq
+use Rattle.frame.proofs.PlacePartialEq.eq.Reads as place-eq
+use Rattle.frame.proofs.HeaderPartialEq.eq.Reads as header-eq
+use Rattle.frame.proofs.WholePartialEq.eq.Reads as whole-eq
+use Rattle.frame.proofs.RefusalPartialEq.eq.Reads as refusal-eq
 use Rattle.frame.proofs.part.Reads as part
 use Rattle.frame.proofs.sender.Reads as sender
 use Rattle.frame.proofs.user_data.Reads as user_data
@@ -23,6 +29,24 @@ one_fault_number κs a x y e f p q = p ∙ sym q
 
 pub one_refusal_number : Leaves refusal-number.Post (λ κs r e. r)
 one_refusal_number κs a x y e f p q = p ∙ sym q
+
+pub one_refusal : Leaves refusal.Post (λ κs r e. r)
+one_refusal κs a x y e f p q = p ∙ sym q
+
+pub one_fault_eq : Leaves fault-eq.Post (λ κs r e. r)
+one_fault_eq κs a x y e f p q = p ∙ sym q
+
+pub one_place_eq : Leaves place-eq.Post (λ κs r e. r)
+one_place_eq κs a x y e f p q = p ∙ sym q
+
+pub one_header_eq : Leaves header-eq.Post (λ κs r e. r)
+one_header_eq κs a x y e f p q = p ∙ sym q
+
+pub one_whole_eq : Leaves whole-eq.Post (λ κs r e. r)
+one_whole_eq κs a x y e f p q = p ∙ sym q
+
+pub one_refusal_eq : Leaves refusal-eq.Post (λ κs r e. r)
+one_refusal_eq κs a x y e f p q = p ∙ sym q
 
 pub one_part : Leaves part.Post (λ κs r e. r.now)
 one_part κs a x y e f p q = p ∙ sym q

@@ -19,7 +19,7 @@ use Rattle.frame.specs.Encoding.{weight, first_octet, type_octets, number_octets
 use Rattle.frame.specs.Reading.{Step, at_place, bit, octet, number, opened, fixed_at, octets_at, sender_at, data_at, extension_at, extensions_from, rest_at, fields_of, reading_of}
 use Rattle.frame.specs.Decoding.{held_at, one_octet, two_octets, message_at, valid, decode}
 use Rattle.frame.specs.Writing.{wrong_sender, wrong_data, Allowed}
-use Rattle.frame.proofs.ReaderLaws.{open_here, rest_end, rest_some, extensions_done}
+use Rattle.frame.proofs.ReaderLaws.{extensions_done}
 use Rattle.frame.proofs.WriterLaws.{Sound, sound, sender_range, data_range}
 
 -- where a field stands that is written at `at`
@@ -180,13 +180,14 @@ extensions_read (x ∷ xs) s pre (suc turns) k q v h =
 
 rest_read : (xs : List Extension) (s pre : List ℕ) → s ≡ pre ++ extension_octets xs → valid_extensions xs ≡ true →
     rest_at s (follows xs) (length pre) ≡ Ok (length xs)
-rest_read [] s pre q v = sym (rest_end s (length pre) false refl (omega (arith, ap length (q ∙ append-nil pre))))
+unfolding rest_at
+rest_read [] s pre q v = simp (le-leb (length s) (length pre) (omega (arith, ap length (q ∙ append-nil pre))))
 rest_read (x ∷ xs) s pre q v =
     let n = simp length-append at (ap length q) in
     let f = few_octets (x ∷ xs) in
     let o = length-append x.1 (extension_octets xs) in
-    sym (rest_some s (length pre) true refl (omega arith) (Ok (length (x ∷ xs)))
-    (sym (extensions_read (x ∷ xs) s pre (length s) 0 q v (omega arith) ∙ ap Ok (native.Mathlib.Nat.zero-add (length (x ∷ xs))))))
+    simp (lt-leb (length s) (length pre) (omega arith))
+    (extensions_read (x ∷ xs) s pre (length s) 0 q v (omega arith) ∙ ap Ok (native.Mathlib.Nat.zero-add (length (x ∷ xs))))
 
 -- ---- the bits of octet 0
 
@@ -327,13 +328,26 @@ module _ (m : Message) (xs : List Extension) where
     known = sound m a
 
     opens : opened (frame_of m xs) ≡ Ok (F, m.confirmation)
+    unfolding opened
     opens =
         let f = flag_bits in
+        let s = frame_of m xs in
         let n = simp length-append at (ap length split₁) in
-        let o₀ : octet (frame_of m xs) 0 ≡ F = ap (λ (s : List ℕ). octet s 0) split₁ in
-        let o₁ : octet (frame_of m xs) 1 ≡ m.confirmation = ap (λ (s : List ℕ). octet s 1) split₁ in
-        sym (simp (o₀, o₁) at (open_here (frame_of m xs) l (omega arith) false (rw o₀ (sym f.bit1)) refl (omega arith) (rw o₁ known.confirmation_low)
-        _ _ _ false refl refl refl (simp (o₀, o₁, f.bit5, f.bit4, f.bit3) (sym known.nothing_lacks)) refl))
+        let o₀ : octet s 0 ≡ F = ap (λ (s : List ℕ). octet s 0) split₁ in
+        let o₁ : octet s 1 ≡ m.confirmation = ap (λ (s : List ℕ). octet s 1) split₁ in
+        simp (
+          le-ltb 1024 (length s) l,
+          le-leb (0 + 1) (length s) (omega arith),
+          o₀,
+          f.bit1,
+          le-leb (1 + 1) (length s) (omega arith),
+          o₁,
+          le-ltb 4 m.confirmation known.confirmation_low,
+          f.bit5,
+          f.bit4,
+          f.bit3,
+          known.nothing_lacks,
+        )
 
     fields_back : fields_of (frame_of m xs) F m.confirmation ≡ Ok (record { header = header_of; extensions = length xs })
     unfolding fields_of

@@ -1,35 +1,13 @@
--- What a field holds: one law for each way out of the functions that read a header's fields. Closed by `simp` with the tests, or by cases.
+-- What a field holds: a type is one octet, a number two. Closed by cases.
 use Rattle.std.specs.Prelude.{None, Option, Some}
-use Prim.Native.Nat.{ℕ, ◌+◌, ◌-◌, ◌<◌, ◌≤◌}
+use Prim.Native.Nat.{ℕ}
 use native.Mathlib.Omega.{arith}
-use native.Mathlib.Nat.{add-sub_cancel_left}
 use mathlib.Core.List.{List, [], ◌∷◌}
 use mathlib.Core.Path.{◌≡◌, refl, ap, ◌∙◌}
-use lib.ListN.{length, get_or, take, drop}
-use borrow.Author.Tests.{le-leb, lt-leb}
+use lib.ListN.{length, get_or}
 use Rattle.frame.specs.declared.Place.{Place}
 use Rattle.frame.specs.Reading.{number}
 use Rattle.frame.specs.Decoding.{held_at, octets_or, one_octet, two_octets, part_at}
-
-module _ (s : List ℕ) (f : Option Place) where
-  pub part_absent : f ≡ None → [] ≡ part_at s f
-  unfolding part_at held_at
-  part_absent e = simp e
-
-  module _ (p : Place) (e : f ≡ Some p) where
-    pub part_past : length s < p.start → [] ≡ part_at s f
-    unfolding part_at held_at
-    part_past h = simp (e, lt-leb (p.start + p.len) (length s) (omega arith))
-
-    pub part_short : p.start ≤ length s → length s - p.start < p.len → [] ≡ part_at s f
-    unfolding part_at held_at
-    part_short h l = simp (e, lt-leb (p.start + p.len) (length s) (omega arith))
-
-    pub part_here : p.start ≤ length s → p.len ≤ length s - p.start → take (p.start + p.len - p.start) (drop p.start s) ≡ part_at s f
-    unfolding part_at held_at
-    part_here h l = simp (e, le-leb (p.start + p.len) (length s) (omega arith), add-sub_cancel_left p.start p.len)
-
--- ---- a type is one octet, a number two
 
 one : (h : Option (List ℕ)) → length (octets_or h) ≡ 1 → Some (get_or (octets_or h) 0 0) ≡ one_octet h
 one None e = absurd (omega arith)

@@ -1,81 +1,29 @@
--- The writer: its tests, each way out, and what they make sure of; octet 0, and the whole frame.
-use Rattle.std.specs.Prelude.{None, Option, Some, Result, Ok, Err}
-use Rattle.std.specs.Option.{MatchOption, option_copied}
+-- The writer: what its tests make sure of, its answer; octet 0, and the whole frame.
+use Rattle.std.specs.Prelude.{None, Option, Some, Result, Ok}
+use Rattle.std.specs.Option.{option_copied}
 use Rattle.std.specs.Bool.{⊤}
 use Prim.Native.Nat.{ℕ, ◌+◌, ◌*◌, ◌<◌, ◌≤◌}
 use native.Mathlib.Omega.{arith}
-use native.Mathlib.Nat.{zero-add}
 use mathlib.Core.List.{List, [], ◌∷◌, ◌++◌, append-nil}
 use mathlib.Core.Bool.{Bool, true, false}
-use mathlib.Core.Path.{◌≡◌, refl, sym, ap, ◌∙◌}
+use mathlib.Core.Path.{◌≡◌, refl, sym, ◌∙◌}
 use lib.ListN.{length}
 use lib.Dec.{ltb, eqb}
 use denote.Ref.{Bor}
 use mir.Val.{bool_byte}
-use borrow.Author.Tests.{le-ltb, lt-ltb, ltb-false, eqb-false}
+use borrow.Author.Tests.{le-ltb, ltb-false, eqb-false}
 use Rattle.octets.specs.Choice.{pick, either}
 use Rattle.octets.specs.Put.{Put}
 use Rattle.octets.proofs.Puts as Puts
 use Rattle.frame.specs.Message.{Message, present, lacks}
 use Rattle.frame.specs.Encoding.{weight, first_octet, type_octets, number_octets, sender_octets, data_octets, frame_of, encode}
-use Rattle.frame.specs.Writing.{message_of, wrong_sender, wrong_data, fault_in, Allowed, refusal_of, check_of, Wrote, Room}
+use Rattle.frame.specs.Writing.{message_of, wrong_sender, wrong_data, fault_in, Allowed, refusal_of, check_of, Room}
 use Rattle.frame.specs.declared.Fault.TheVariants.{BadOctet, BadLength, Lacking}
 use Rattle.frame.specs.declared.Parts.{Parts}
 use Rattle.frame.specs.declared.Refusal.{Refusal}
 use Rattle.frame.specs.declared.Refusal.TheVariants.{NoRoom, Faulty}
 
--- ---- the tests: each way out
-
-present_copied : (o : Option (Bor (List ℕ))) → present (option_copied o) ≡ present o
-present_copied None = refl
-present_copied (Some d) = refl
-
-pub data_wrong : (o : Option (Bor (List ℕ))) (b : Bool) {P : Bor (List ℕ) → Type 0} → MatchOption o (b ≡ false) P →
-    ((d : Bor (List ℕ)) → P d → b ≡ ltb 512 (length d.now)) → b ≡ wrong_data (option_copied o)
-unfolding wrong_data
-data_wrong None b m h = m
-data_wrong (Some d) b m h = h d m
-
-pub sender_wrong : (o : Option (Bor (List ℕ))) (b : Bool) {P : Bor (List ℕ) → Type 0} → MatchOption o (b ≡ false) P →
-    ((d : Bor (List ℕ)) → P d → b ≡ either (eqb (length d.now) 0) (ltb 32 (length d.now))) → b ≡ wrong_sender (option_copied o)
-unfolding wrong_sender
-sender_wrong None b m h = m
-sender_wrong (Some d) b m h = h d m
-
-module _ (p : Parts) (room : ℕ) where
-  pub fails_room : room < 1024 → Err NoRoom ≡ check_of (refusal_of room (message_of p))
-  unfolding refusal_of
-  fails_room h = simp (lt-ltb room 1024 h)
-
-  module _ (h : 1024 ≤ room) where
-    pub fails_confirmation : 4 < p.confirmation → Err (Faulty BadOctet) ≡ check_of (refusal_of room (message_of p))
-    unfolding refusal_of fault_in
-    fails_confirmation g = simp (le-ltb room 1024 h, lt-ltb 4 p.confirmation g)
-
-    module _ (g : p.confirmation ≤ 4) (i r t x : Bool) (qi : i ≡ present p.identifier) (qr : r ≡ present p.reference) (qt : t ≡ present p.sender)
-        (qx : x ≡ lacks p.confirmation i r t) where
-      q : x ≡ lacks p.confirmation (present p.identifier) (present p.reference) (present (option_copied p.sender))
-      q = qx ∙ simp (qi, qr, qt, present_copied p.sender)
-
-      pub fails_lacking : x ≡ true → Err (Faulty Lacking) ≡ check_of (refusal_of room (message_of p))
-      unfolding refusal_of fault_in
-      fails_lacking e = simp (le-ltb room 1024 h, le-ltb 4 p.confirmation g, sym q ∙ e)
-
-      module _ (e : x ≡ false) (y : Bool) (qy : y ≡ wrong_sender (option_copied p.sender)) where
-        pub fails_sender : y ≡ true → Err (Faulty BadLength) ≡ check_of (refusal_of room (message_of p))
-        unfolding refusal_of fault_in
-        fails_sender ey = simp (le-ltb room 1024 h, le-ltb 4 p.confirmation g, sym q ∙ e, sym qy ∙ ey)
-
-        module _ (ey : y ≡ false) (z : Bool) (qz : z ≡ wrong_data (option_copied p.user_data)) where
-          pub fails_data : z ≡ true → Err (Faulty BadLength) ≡ check_of (refusal_of room (message_of p))
-          unfolding refusal_of fault_in
-          fails_data ez = simp (le-ltb room 1024 h, le-ltb 4 p.confirmation g, sym q ∙ e, sym qy ∙ ey, sym qz ∙ ez)
-
-          pub fails_not : z ≡ false → Ok tt ≡ check_of (refusal_of room (message_of p))
-          unfolding refusal_of fault_in
-          fails_not ez = simp (le-ltb room 1024 h, le-ltb 4 p.confirmation g, sym q ∙ e, sym qy ∙ ey, sym qz ∙ ez)
-
--- ---- what they make sure of
+-- ---- what the tests make sure of
 
 false_true : false ≡ true → ⊥
 false_true e = let z : ◌≡◌ {A = ℕ} 0 1 = cc in omega arith
@@ -158,10 +106,6 @@ check_fits : (o : Option Refusal) (u : ⊤) → check_of o ≡ Ok u → o ≡ No
 check_fits None u e = refl
 check_fits (Some r) u e = let n : ◌≡◌ {A = ℕ} 0 1 = cc in absurd (omega arith)
 
-check_fails : (o : Option Refusal) (r : Refusal) → check_of o ≡ Err r → o ≡ Some r
-check_fails None r e = let n : ◌≡◌ {A = ℕ} 0 1 = cc in absurd (omega arith)
-check_fails (Some x) r e = ap Some (cc)
-
 module _ (m : Message) (b : List ℕ) (k : Result ⊤ Refusal) (q : k ≡ check_of (refusal_of (length b) m)) where
   pub fits_room : {u : ⊤} → k ≡ Ok u → Room m b
   fits_room {u} e =
@@ -169,15 +113,11 @@ module _ (m : Message) (b : List ℕ) (k : Result ⊤ Refusal) (q : k ≡ check_
       let v = sound m w.1 in
       record { room = w.0; sender_fits = sender_33 m.sender v.sender_right; data_fits = data_514 m.user_data v.data_right }
 
-  pub wrote_not : (r : Refusal) → k ≡ Err r → Wrote (refusal_of (length b) m) (encode m) b b (Err r)
-  wrote_not r e = rw (check_fails (refusal_of (length b) m) r (sym q ∙ e)) (record { answers = refl; leaves = refl })
-
-  pub wrote_all : {u : ⊤} → k ≡ Ok u → (a : List ℕ) (n : ℕ) → Put b 0 (encode m) a n → Wrote (refusal_of (length b) m) (encode m) b a (Ok n)
-  wrote_all {u} e a n g =
-      rw (check_fits (refusal_of (length b) m) u (sym q ∙ e))
-      (record { answers = ap Ok (g.place ∙ zero-add (length (encode m))); leaves = g.held })
-
 -- ---- the whole
+
+present_copied : (o : Option (Bor (List ℕ))) → present (option_copied o) ≡ present o
+present_copied None = refl
+present_copied (Some d) = refl
 
 bool_weight : (b : Bool) (w : ℕ) → bool_byte b * w ≡ weight b w
 bool_weight true w = omega arith

@@ -14,30 +14,22 @@ ghost use Rattle.frame.specs.declared.Refusal.TheVariants.{Faulty};
 mod reader;
 mod writer;
 
-// What may be wrong with a frame.
+// What may be wrong with a frame, each with 01's number.
 #[derive(Clone, Copy, PartialEq, Eq)]
 pub enum Fault {
-    TooLong,
-    Incomplete,
-    BadOctet,
-    BadLength,
-    Lacking,
-    LeftOver,
+    TooLong = 11,
+    Incomplete = 12,
+    BadOctet = 13,
+    BadLength = 14,
+    Lacking = 15,
+    LeftOver = 16,
 }
 
-// 01's number of a fault.
 impl From<Fault> for u8 {
     ghost from_gives = { λ f n. n ≡ fault_number f };
 
     fn from(f: Fault) -> u8 {
-        match f {
-            Fault::TooLong => 11,
-            Fault::Incomplete => 12,
-            Fault::BadOctet => 13,
-            Fault::BadLength => 14,
-            Fault::Lacking => 15,
-            Fault::LeftOver => 16,
-        }
+        f as u8
     }
 }
 
@@ -109,6 +101,7 @@ impl From<Refusal> for u8 {
 }
 
 // The whole message, or the first fault.
+#[tactic(auto, unfolding(crate::specs::Reading::reading_of))]
 pub fn read(frame: &[u8]) -> Result<Whole, Fault>
     ensures { result ≡ reading_of frame.now }
 {
@@ -116,17 +109,17 @@ pub fn read(frame: &[u8]) -> Result<Whole, Fault>
     reader::fields(frame, flags, confirmation)
 }
 
+// Frame and place stay two arguments of these: a header outlives the loan of the frame, and each answers of any two.
+
 // The octets of a field, as that part of the caller's frame; the empty part of an absent field, or of one that does not lie within the frame.
+#[tactic(auto, unfolding(crate::specs::Decoding::part_at, crate::specs::Decoding::held_at))]
 pub fn part(frame: &[u8], place: Option<Place>) -> &[u8]
     ensures { result.now ≡ part_at frame.now place }
 {
     let Some(Place { start, len }) = place else {
         return &frame[..0];
     };
-    if frame.len() < start {
-        return &frame[..0];
-    }
-    if frame.len() - start < len {
+    if frame.len() < start || frame.len() - start < len {
         return &frame[..0];
     }
     &frame[start..start + len]
@@ -147,22 +140,24 @@ pub fn user_data(frame: &[u8], header: Header) -> &[u8]
 }
 
 // The value of a type field; none of a field that is not one octet of this frame.
+#[tactic(auto, using(crate::proofs::ValueLaws::octet_one, crate::proofs::ValueLaws::octet_none))]
 pub fn one_octet(frame: &[u8], place: Option<Place>) -> Option<u8>
     ensures { result ≡ one_octet (held_at frame.now place) }
 {
-    let held = part(frame, place);
-    if held.len() == 1 { Some(held[0]) } else { None }
+    match part(frame, place) {
+        [x] => Some(*x),
+        _ => None,
+    }
 }
 
 // The value of an identifier or a reference; none of a field that is not two octets of this frame.
+#[tactic(auto, using(crate::proofs::ValueLaws::number_two, crate::proofs::ValueLaws::number_none))]
 pub fn two_octets(frame: &[u8], place: Option<Place>) -> Option<u16>
     ensures { result ≡ two_octets (held_at frame.now place) }
 {
-    let held = part(frame, place);
-    if held.len() == 2 {
-        Some(u16::from_be_bytes([held[0], held[1]]))
-    } else {
-        None
+    match part(frame, place) {
+        [high, low] => Some(u16::from_be_bytes([*high, *low])),
+        _ => None,
     }
 }
 
@@ -175,16 +170,11 @@ pub fn write(parts: Parts, out: &mut [u8]) -> Result<usize, Refusal>
 }
 
 // Puts a frame without its extension fields, which begin at `end`, into `out` from the place `at` on.
+#[tactic(auto, unfolding(crate::specs::Stripping::bare_to), using(octets::proofs::Puts::sets_out))]
 pub fn put_bare(frame: &[u8], end: usize, out: &mut [u8], at: usize)
     ensures { out.new ≡ sets out.old at (bare_to frame.now end) }
 {
-    if end == 0 {
-        return;
-    }
-    if frame.len() < end {
-        return;
-    }
-    if out.len() <= at {
+    if end == 0 || frame.len() < end || out.len() <= at {
         return;
     }
     out[at] = frame[0] % 128;
@@ -192,6 +182,7 @@ pub fn put_bare(frame: &[u8], end: usize, out: &mut [u8], at: usize)
 }
 
 // Writes the frame without extensions of a received frame at the front of `out`, or refuses and leaves it as it was.
+#[tactic(auto, unfolding(crate::specs::Stripping::strip_refusal))]
 pub fn strip(frame: &[u8], out: &mut [u8]) -> Result<usize, Refusal>
     ensures { Wrote (strip_refusal (length out.old) frame.now) (bare frame.now) out.old out.new result }
 {
@@ -204,6 +195,7 @@ pub fn strip(frame: &[u8], out: &mut [u8]) -> Result<usize, Refusal>
 }
 
 // Whether a frame is an edition 1 frame.
+#[tactic(auto, unfolding(crate::specs::Stripping::edition_one))]
 pub fn is_edition_one(frame: &[u8]) -> bool
     ensures { result ≡ edition_one frame.now }
 {

@@ -1,4 +1,5 @@
 // The field readers. Each answers the field and the place after it, or the fault.
+// Frame and place stay two arguments, no cursor: one answer of `Result` then holds all that a reader found, for `let else` to take apart.
 ghost use Rattle.std.specs.Prelude.{◌≡◌, ◌<◌, length};
 ghost use Rattle.frame.specs.Message.{lacks};
 ghost use Rattle.frame.specs.Reading.{bit, opened, fixed_at, sender_at, data_at, extension_at, extensions_from, rest_at, fields_of};
@@ -20,6 +21,7 @@ fn bit(flags: u8, weight: u8) -> bool
 }
 
 // Whether a field that the confirmation needs is absent.
+#[tactic(auto, unfolding(crate::specs::Message::lacks))]
 pub(crate) fn lacking(confirmation: u8, identifier: bool, reference: bool, sender: bool) -> bool
     ensures { result ≡ lacks confirmation identifier reference sender }
 {
@@ -31,22 +33,21 @@ pub(crate) fn lacking(confirmation: u8, identifier: bool, reference: bool, sende
 }
 
 // A field of n octets.
+#[tactic(auto, unfolding(crate::specs::Reading::fixed_at, crate::specs::Reading::octets_at))]
 fn fixed(frame: &[u8], present: bool, n: usize, at: usize) -> Step
     ensures { result ≡ fixed_at frame.now present n at }
 {
     if !present {
         return Ok((None, at));
     }
-    if frame.len() < at {
-        return Err(Fault::Incomplete);
-    }
-    if frame.len() - at < n {
+    if frame.len() < at || frame.len() - at < n {
         return Err(Fault::Incomplete);
     }
     Ok((Some(Place { start: at, len: n }), at + n))
 }
 
 // The sender: a length octet 1..32 and its octets.
+#[tactic(auto, unfolding(crate::specs::Reading::sender_at, crate::specs::Reading::fixed_at))]
 fn sender(frame: &[u8], present: bool, at: usize) -> Step
     ensures { result ≡ sender_at frame.now present at }
 {
@@ -57,26 +58,21 @@ fn sender(frame: &[u8], present: bool, at: usize) -> Step
         return Err(Fault::Incomplete);
     }
     let n = usize::from(frame[at]);
-    if n == 0 {
-        return Err(Fault::BadLength);
-    }
-    if 32 < n {
+    if n == 0 || 32 < n {
         return Err(Fault::BadLength);
     }
     fixed(frame, true, n, at + 1)
 }
 
 // The user data: a length of two octets, 0..512, and its octets.
+#[tactic(auto, unfolding(crate::specs::Reading::data_at, crate::specs::Reading::fixed_at))]
 fn data(frame: &[u8], present: bool, at: usize) -> Step
     ensures { result ≡ data_at frame.now present at }
 {
     if !present {
         return Ok((None, at));
     }
-    if frame.len() < at {
-        return Err(Fault::Incomplete);
-    }
-    if frame.len() - at < 2 {
+    if frame.len() < at || frame.len() - at < 2 {
         return Err(Fault::Incomplete);
     }
     let n = usize::from(u16::from_be_bytes([frame[at], frame[at + 1]]));
@@ -87,6 +83,7 @@ fn data(frame: &[u8], present: bool, at: usize) -> Step
 }
 
 // An extension field: tag 1..255, length 0..255, octets.
+#[tactic(auto, unfolding(crate::specs::Reading::extension_at, crate::specs::Reading::fixed_at))]
 fn extension(frame: &[u8], at: usize) -> Step
     ensures { result ≡ extension_at frame.now at }
 {
@@ -108,7 +105,7 @@ fn extensions(frame: &[u8], start: usize) -> Result<usize, Fault>
 {
     let mut at = start;
     let mut n: usize = 0;
-    // No `for`: how far a turn goes is what the frame says there.
+    // Counted by hand: how far a turn goes is what the frame says there, and a fault ends it, so no iterator is plainer.
     while at < frame.len() {
         let (_, next) = extension(frame, at)?;
         at = next;
@@ -118,6 +115,7 @@ fn extensions(frame: &[u8], start: usize) -> Result<usize, Fault>
 }
 
 // What follows the fields: so many extension fields.
+#[tactic(auto, unfolding(crate::specs::Reading::rest_at))]
 fn ending(frame: &[u8], follow: bool, at: usize) -> Result<usize, Fault>
     ensures { result ≡ rest_at frame.now follow at }
 {
@@ -134,6 +132,7 @@ fn ending(frame: &[u8], follow: bool, at: usize) -> Result<usize, Fault>
 }
 
 // The first two octets.
+#[tactic(auto, unfolding(crate::specs::Reading::opened))]
 pub(crate) fn open(frame: &[u8]) -> Result<(u8, u8), Fault>
     ensures { result ≡ opened frame.now }
 {
@@ -160,7 +159,9 @@ pub(crate) fn open(frame: &[u8]) -> Result<(u8, u8), Fault>
     Ok((flags, confirmation))
 }
 
-// The fields, from octet 2 on. (Each answer is taken apart by `let else`, not by `?`: a rule of the project for this place.)
+// The fields, from octet 2 on. A rule of the project asks for `let else` here: each field reader's answer is taken apart, the fault handed up at
+// once.
+#[tactic(auto, unfolding(crate::specs::Reading::fields_of))]
 pub(crate) fn fields(frame: &[u8], flags: u8, confirmation: u8) -> Result<Whole, Fault>
     ensures { result ≡ fields_of frame.now flags confirmation }
 {

@@ -52,6 +52,7 @@ fn put_data(data: Option<&[u8]>, out: &mut [u8]) -> usize
 }
 
 // Octet 0 of an edition 1 frame.
+#[tactic(auto, using(crate::proofs::WriterLaws::flags_sum))]
 fn flags(parts: Parts) -> u8
     ensures { result ≡ first_octet false (message_of parts.entry) }
 {
@@ -77,12 +78,14 @@ pub(crate) fn put_all(parts: Parts, out: &mut [u8]) -> usize
 }
 
 // A sender of a length out of range.
+#[tactic(auto, unfolding(crate::specs::Writing::wrong_sender))]
 fn bad_sender(sender: Option<&[u8]>) -> bool
     ensures { result ≡ wrong_sender (option_copied sender.entry) }
 {
     sender.is_some_and(|s| s.is_empty() || 32 < s.len())
 }
 
+#[tactic(auto, unfolding(crate::specs::Writing::wrong_data))]
 fn bad_data(data: Option<&[u8]>) -> bool
     ensures { result ≡ wrong_data (option_copied «data».entry) }
 {
@@ -90,6 +93,7 @@ fn bad_data(data: Option<&[u8]>) -> bool
 }
 
 // 6, then 13, 15, 14.
+#[tactic(auto, unfolding(crate::specs::Writing::refusal_of, crate::specs::Writing::fault_in))]
 pub(crate) fn tested(parts: Parts, room: usize) -> Result<(), Refusal>
     ensures { result ≡ check_of (refusal_of room (message_of parts.entry)) }
 {
@@ -107,10 +111,7 @@ pub(crate) fn tested(parts: Parts, room: usize) -> Result<(), Refusal>
     ) {
         return Err(Refusal::Faulty(Fault::Lacking));
     }
-    if bad_sender(parts.sender) {
-        return Err(Refusal::Faulty(Fault::BadLength));
-    }
-    if bad_data(parts.user_data) {
+    if bad_sender(parts.sender) || bad_data(parts.user_data) {
         return Err(Refusal::Faulty(Fault::BadLength));
     }
     Ok(())

@@ -18,6 +18,7 @@ pub fn wide16(x: u8) -> u16
 }
 
 // Puts the octets of `src` into `out` from the place `at` on; every other octet stays. What finds no room is left out.
+#[tactic(auto, using(crate::proofs::Puts::sets_out, crate::proofs::Puts::copied))]
 pub fn put(out: &mut [u8], at: usize, src: &[u8])
     ensures { out.new ≡ sets out.old at src.now }
 {

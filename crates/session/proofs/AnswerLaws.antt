@@ -1,5 +1,5 @@
 -- Laws of a line's answer: the room of what a unit lays, and the setup of a first line. Closed by cases on the outcome, and by the tests.
-use Rattle.std.specs.Prelude.{None, Option}
+use Rattle.std.specs.Prelude.{None, Option, Some, Result, Ok, Err}
 use Prim.Native.Nat.{ℕ, ◌+◌, ◌-◌, ◌<◌, ◌≤◌}
 use mathlib.Core.Path.{◌≡◌, refl, ap, sym, ◌∙◌}
 use mathlib.Core.Bool.{Bool, true, false}
@@ -7,8 +7,9 @@ use mathlib.Core.List.{List, [], ◌∷◌, ◌++◌, append-nil}
 use native.Mathlib.Omega.{arith}
 use borrow.Author.Tests.{ne_eqb}
 use lib.Dec.{eqb, ltb}
-use lib.ListN.{length, take, drop, get_or, length-drop, drop_of_length-le}
-use lib.Seq.{take_all, sets}
+use lib.ListN.{length, take, drop, get_or, drop_of_length-le}
+use lib.Seq.{sets}
+use Rattle.std.proofs.lemmas.List.{get_or_default, take_rest}
 use Rattle.octets.specs.Choice.{pick, both}
 use Rattle.octets.specs.Put.{Put}
 use Rattle.octets.proofs.Puts as Puts
@@ -19,28 +20,33 @@ use Rattle.book.specs.Sound.{sound_of, within_limits}
 use Rattle.book.specs.Step.{step, octets_of, turn_of, set_up}
 use Rattle.book.specs.declared.Unit.{Unit as Value}
 use Rattle.book.specs.declared.Turn.{Turn}
-use Rattle.book.specs.declared.Verdict.{Verdict}
-use Rattle.book.specs.declared.Verdict.TheVariants.{Done, Refused}
+use Rattle.book.specs.Refusals.{refusal_number}
+use Rattle.book.specs.declared.Done.{Done}
+use Rattle.book.specs.declared.Refusal.{Refusal}
+use Rattle.book.specs.declared.Refusal.TheVariants.{BadSetup, NoEvent, Unsound}
 use Rattle.image.specs.Image.{unit_of}
 use Rattle.image.specs.Answer.{Handled, SetsUp}
 use Rattle.image_laws.proofs.GoesOn as GoesOn
 use Rattle.image_laws.proofs.GoesOn.{set_verdict, set_unit}
 use Rattle.room_laws.proofs.Room.{room}
-use Rattle.session.specs.Listing.{text, two, no_setup, setup_in, first_turn, refusal_line, state_line, begun, later_outcome, outcome_lines, gone_on, answer_to, listed}
-use Rattle.session.specs.Feeding.{Taken, heard, most, last_line}
-use Rattle.session.specs.Walking.{Begins, Lays, Takes, stated, stopped_at}
-use Rattle.session.specs.declared.Fed.{Fed}
+use Rattle.session.specs.Listing.{Answer, text, two, no_setup, setup_in, first_turn, refusal_line, state_line, begun, answer_to, listed}
+use Rattle.session.specs.Feeding.{most, last_line}
+use Rattle.session.specs.Walking.{Begins, Lays, Says, stated, verdict_lines}
+use Rattle.session.specs.declared.answers.Said.{Said}
 use Rattle.session.specs.declared.Phase.{Phase}
 use Rattle.session.specs.declared.Phase.TheVariants.{First, Running, Stopped}
+use Rattle.std.specs.Option.{unwrap_or}
+use Rattle.std.specs.Borrow.{Bor}
+use Rattle.text.specs.Reading.{held_in}
 use Rattle.session.proofs.WalkLaws.{shows, text_one, text-append, print_put, printed_long}
 
 -- ---- room
 
-unsound : (u : Value) (ev : List ℕ) (o : Outcome) → sound_of u ≡ false → step 1024 u ev ≡ o → o ≡ refused 9
+unsound : (u : Value) (ev : List ℕ) (o : Outcome) → sound_of u ≡ false → step 1024 u ev ≡ o → o ≡ refused Unsound
 unfolding step
 unsound u ev o e q = sym q ∙ rw e
 
-apart : {n : ℕ} {st : State} {os : List Out} → done st os ≡ refused n → ⊥
+apart : {n : Refusal} {st : State} {os : List Out} → done st os ≡ refused n → ⊥
 apart e = let z : ◌≡◌ {A = ℕ} 0 1 = cc in absurd (omega arith)
 
 -- what any unit lays for any event has room
@@ -70,34 +76,34 @@ setup_short s h = rw (drop_of_length-le s {i = 7} (omega arith), no_name (ltb 0 
     go true = refl
     go false = refl
 
-kind_of_lem : (s : List ℕ) → 7 ≤ length s → get_or s 0 1 ≡ get_or s 0 0
-kind_of_lem [] h = absurd (omega arith)
-kind_of_lem (x ∷ s) h = refl
-
 setup_as : (s : List ℕ) (a b c : ℕ) → 7 ≤ length s → get_or s 0 0 ≡ 0 → a ≡ two s 1 → b ≡ two s 3 → c ≡ two s 5
     → set_up a b c (take (length s - 7) (drop 7 s)) ≡ setup_in s
 unfolding setup_in
 setup_as s a b c h k x y z =
-    let l : take (length s - 7) (drop 7 s) ≡ drop 7 s = take_all (length s - 7) (drop 7 s) (omega (arith, length-drop 7 s)) in
-    rw (kind_of_lem s h, k, l, x, y, z)
+    rw (get_or_default s 0 1 0 (omega arith), k, take_rest s 7, x, y, z)
 
 pub setup_other : (s : List ℕ) → 7 ≤ length s → (get_or s 0 0 ≡ 0 → ⊥) → no_setup ≡ setup_in s
 unfolding setup_in
-setup_other s h k = rw (kind_of_lem s h, ne_eqb (get_or s 0 0) 0 k)
+setup_other s h k = rw (get_or_default s 0 1 0 (omega arith), ne_eqb (get_or s 0 0) 0 k)
 
-pub begins_as : {t k : Turn} {r : Verdict} {image : List ℕ} → t ≡ k → Begins t r image → Begins k r image
+-- a line that is no event is none, as an empty one
+setup_from : (e : Option (Bor (List ℕ))) (d : Bor (List ℕ)) → d.now ≡ [] → setup_in (unwrap_or e d).now ≡ first_turn (held_in e)
+setup_from None d h = ap setup_in h ∙ sym (setup_short [] (omega arith))
+setup_from (Some s) d h = refl
+
+pub begins_as : {t k : Turn} {r : Result Done Refusal} {image : List ℕ} → t ≡ k → Begins t r image → Begins k r image
 begins_as e h = rw e at h
 
 -- what setup writes, over an image of 618 octets
-begins : (a b c : ℕ) (name image : List ℕ) {r : Verdict} {after : List ℕ} → length image ≡ 618 → SetsUp a b c name image r after
+begins : (a b c : ℕ) (name image : List ℕ) {r : Result Done Refusal} {after : List ℕ} → length image ≡ 618 → SetsUp a b c name image r after
     → Begins (set_up a b c name) r after
 begins a b c name image w h = record { verdict = set_verdict a b c name image w h; unit = set_unit a b c name image w h }
 
-pub setup_none : {image after : List ℕ} {r : Verdict} → length image ≡ 618 → SetsUp 0 0 0 [] image r after → Begins no_setup r after
+pub setup_none : {image after : List ℕ} {r : Result Done Refusal} → length image ≡ 618 → SetsUp 0 0 0 [] image r after → Begins no_setup r after
 unfolding set_up within_limits
 setup_none {image} w h = begins 0 0 0 [] image w h
 
-pub setup_is : (s : List ℕ) (a b c : ℕ) {image after : List ℕ} {r : Verdict} → length image ≡ 618 → 7 ≤ length s → get_or s 0 0 ≡ 0
+pub setup_is : (s : List ℕ) (a b c : ℕ) {image after : List ℕ} {r : Result Done Refusal} → length image ≡ 618 → 7 ≤ length s → get_or s 0 0 ≡ 0
     → a ≡ two s 1 → b ≡ two s 3 → c ≡ two s 5 → SetsUp a b c (take (length s - 7) (drop 7 s)) image r after → Begins (setup_in s) r after
 setup_is s a b c {image} w h k x y z e = begins_as (setup_as s a b c h k x y z) (begins a b c (take (length s - 7) (drop 7 s)) image w e)
 
@@ -110,6 +116,11 @@ print_two out at k n r after h p q =
     let e = print_put out (k ∷ n ∷ []) at r after (omega arith) p q in
     (Puts.put_as (sym (text_one (k ∷ n ∷ []))) e, omega (arith, e.place, printed_long (k ∷ n ∷ [])))
 
+-- a refusal, by its number
+pub print_refusal : {out after : List ℕ} {at n end : ℕ} (r : Refusal) → n ≡ refusal_number r → (Put out at (text ((0xff ∷ n ∷ []) ∷ [])) after end) × (end ≡ at + 5)
+    → (Put out at (text (refusal_line r ∷ [])) after end) × (end ≡ at + 5)
+print_refusal r e p = rw e at p
+
 -- two goes of printing are one
 pub shown_then : (a b : List (List ℕ)) {b0 b1 b2 : List ℕ} {i j k : ℕ} → Put b0 i (text a) b1 j → Put b1 j (text b) b2 k → Put b0 i (text (a ++ b)) b2 k
 shown_then a b p q = Puts.put_as (sym (text-append a b)) (Puts.then p q)
@@ -118,29 +129,22 @@ state_long : (u : Value) → length (text (state_line u ∷ [])) ≡ 5
 state_long u = ap length (text_one (state_line u)) ∙ printed_long (state_line u)
 
 -- `f0` and the state that was read in the image
-pub states : (image out : List ℕ) {at n k place : ℕ} {after : List ℕ} → k ≡ (unit_of image).state → Put out at (text ((0xf0 ∷ k ∷ []) ∷ [])) after place → place ≡ at + 5
-    → Takes (stated (unit_of image) n) out at image after (record { session = record { phase = Running; passing = false }; taken = n; written = place })
-states image out e p q = record { session = refl; taken = refl; put = rw e at p; small = omega arith }
+pub says_state : (image out : List ℕ) {at k end : ℕ} {after : List ℕ} → k ≡ (unit_of image).state → Put out at (text ((0xf0 ∷ k ∷ []) ∷ [])) after end → end ≡ at + 5
+    → Says (stated (unit_of image) []) out at image after (record { phase = Running; end = end })
+says_state image out e p q = record { phase = refl; unit = refl; put = rw e at p; small = omega arith }
 
-module _ {out mid after image : List ℕ} {at place : ℕ} {r : Fed} where
-  -- a line's answer, then the state
-  pub goes_on : (u : Value) (n : ℕ) (o : Outcome) (ls : List (List ℕ)) → ls ≡ outcome_lines o → unit_of image ≡ (turn_of u o).unit
-      → Put out at (text ls) mid place → place ≤ at + 2048 → Takes (stated (unit_of image) n) mid place image after r
-      → Takes (heard n (gone_on u o)) out at image after r
-  goes_on u n o ls e f p h t = record {
-    session = t.session ∙ ap (λ x. record { unit = x; phase = Running; passing = false }) f;
-    taken = t.taken;
-    put = shown_then (outcome_lines o) (state_line (turn_of u o).unit ∷ []) (rw e at p) (rw f at t.put);
-    small = omega (arith, t.put.place, state_long (unit_of image));
-  }
-
-  pub goes_refused : (n : ℕ) → Put out at (text (refusal_line 8 ∷ [])) mid place → place ≡ at + 5 → Takes (stated (unit_of image) n) mid place image after r
-      → Takes (heard n (gone_on (unit_of image) (refused 8))) out at image after r
-  unfolding turn_of
-  goes_refused n p e t = goes_on (unit_of image) n (refused 8) (refusal_line 8 ∷ []) refl refl p (omega arith) t
+-- the lines of a unit's answer, and then the state
+pub says_on : {out mid after image : List ℕ} {at place : ℕ} {r : Said} (ls : List (List ℕ)) → Put out at (text ls) mid place → place ≤ at + 2048
+    → Says (stated (unit_of image) []) mid place image after r → Says (stated (unit_of image) ls) out at image after r
+says_on {image = image} ls p h t = record {
+  phase = t.phase;
+  unit = t.unit;
+  put = shown_then ls (state_line (unit_of image) ∷ []) p t.put;
+  small = omega (arith, t.put.place, state_long (unit_of image));
+}
 
 -- a unit's turn at an event
-pub handled : (image ev before : List ℕ) {image' after : List ℕ} {r : Verdict} → length image ≡ 618 → ((i : ℕ) → octet image i < 256)
+pub handled : (image ev before : List ℕ) {image' after : List ℕ} {r : Result Done Refusal} → length image ≡ 618 → ((i : ℕ) → octet image i < 256)
     → ((i : ℕ) → octet ev i < 256) → length before ≡ 1024 → Handled image ev before r image' after
     → Lays (unit_of image) (step 1024 (unit_of image) ev) r image' after
 handled image ev before {image'} {after} {r} e small event w t =
@@ -153,47 +157,52 @@ handled image ev before {image'} {after} {r} e small event w t =
 
 -- ---- by phase
 
-pub takes_as : {t k : Taken} {out image after : List ℕ} {at : ℕ} {r : Fed} → t ≡ k → Takes k out at image after r → Takes t out at image after r
-takes_as e h = rw e h
+says_as : {a b : Answer} {out image after : List ℕ} {at : ℕ} {r : Said} → a ≡ b → Says b out at image after r → Says a out at image after r
+says_as e h = rw e h
 
-module _ {out image after : List ℕ} {at : ℕ} {r : Fed} where
-  pub begin_good : (v : Verdict) (n : ℕ) {a b : ℕ} → v ≡ Done a b → Takes (stated (unit_of image) n) out at image after r
-      → Takes (heard n (begun (unit_of image) v)) out at image after r
-  begin_good v n e t = rw e t
+module _ {out image after : List ℕ} {at : ℕ} {r : Said} where
+  pub begin_good : (v : Result Done Refusal) {d : Done} → v ≡ Ok d → Says (stated (unit_of image) []) out at image after r → Says (begun (unit_of image) v) out at image after r
+  begin_good v e t = rw e t
 
-  pub begin_refused : (v : Verdict) (n : ℕ) {k end : ℕ} → v ≡ Refused k → Put out at (text (refusal_line k ∷ [])) after end → end ≡ at + 5
-      → r ≡ stopped_at n end → Takes (heard n (begun (unit_of image) v)) out at image after r
-  begin_refused v n e p q f = rw (e, f) (record { session = refl; taken = refl; put = p; small = omega arith })
+  pub begin_refused : (v : Result Done Refusal) {k : Refusal} {end : ℕ} → v ≡ Err k → Put out at (text (refusal_line k ∷ [])) after end → end ≡ at + 5
+      → r ≡ record { phase = Stopped; end = end } → Says (begun (unit_of image) v) out at image after r
+  begin_refused v e p q f = rw (e, f) (record { phase = refl; unit = refl; put = p; small = omega arith })
 
-  pub answer_first : (p : Phase) (u : Value) (e : Option (List ℕ)) (n : ℕ) (v : Verdict) → p ≡ First → Begins (first_turn e) v image
-      → Takes (heard n (begun (unit_of image) v)) out at image after r → Takes (heard n (answer_to p u e)) out at image after r
+  pub answer_first : (p : Phase) (u : Value) (e : Option (Bor (List ℕ))) (d x : Bor (List ℕ)) (v : Result Done Refusal) → p ≡ First → d.now ≡ [] → x ≡ unwrap_or e d
+      → Begins (setup_in x.now) v image → Says (begun (unit_of image) v) out at image after r → Says (answer_to p u (held_in e)) out at image after r
   unfolding answer_to
-  answer_first p u e n v q f h = rw q (takes_as (rw (f.unit, f.verdict)) h)
+  answer_first p u e d x v q z y f h =
+      let t : setup_in x.now ≡ first_turn (held_in e) = ap (λ (b : Bor (List ℕ)). setup_in b.now) y ∙ setup_from e d z in
+      rw q (says_as (rw (← t, f.unit, f.verdict)) h)
 
-  pub answer_running : (p : Phase) (u : Value) (e : Option (List ℕ)) (n : ℕ) → p ≡ Running
-      → Takes (heard n (gone_on u (later_outcome u e))) out at image after r → Takes (heard n (answer_to p u e)) out at image after r
+  pub answer_event : (p : Phase) (u : Value) (e : Option (Bor (List ℕ))) (x : Bor (List ℕ)) (v : Result Done Refusal) (laid : List ℕ) → p ≡ Running → e ≡ Some x
+      → Lays u (step 1024 u x.now) v image laid → Says (stated (unit_of image) (verdict_lines v laid)) out at image after r
+      → Says (answer_to p u (held_in e)) out at image after r
   unfolding answer_to
-  answer_running p u e n q h = rw q h
+  answer_event p u e x v laid q i f h = rw (q, i) (says_as (rw (f.lines, f.unit)) h)
 
-pub answer_stopped : (p : Phase) (image : List ℕ) (e : Option (List ℕ)) (n : ℕ) (out : List ℕ) {at : ℕ} {r : Fed} → p ≡ Stopped → r ≡ stopped_at n at
-    → Takes (heard n (answer_to p (unit_of image) e)) out at image out r
+  pub answer_none : (p : Phase) (e : Option (Bor (List ℕ))) → p ≡ Running → e ≡ None
+      → Says (stated (unit_of image) (refusal_line NoEvent ∷ [])) out at image after r → Says (answer_to p (unit_of image) (held_in e)) out at image after r
+  unfolding answer_to turn_of
+  answer_none p e q i h = rw (q, i) h
+
+pub answer_stopped : (p : Phase) (image : List ℕ) (e : Option (List ℕ)) (out : List ℕ) {at : ℕ} → p ≡ Stopped
+    → Says (answer_to p (unit_of image) e) out at image out (record { phase = p; end = at })
 unfolding answer_to text
-answer_stopped p image e n out {at} q f = rw (q, f) (record { session = refl; taken = refl; put = Puts.none out at; small = omega arith })
+answer_stopped p image e out q = rw q (record { phase = refl; unit = refl; put = Puts.none out _; small = omega arith })
 
 -- ---- the input's end, by phase
 
-pub end_first : {out after : List ℕ} {r : ℕ} (p : Phase) (left : Bool) (u : Value) → p ≡ First → Put out 0 (text (refusal_line 7 ∷ [])) after r → r ≡ 0 + 5
+pub end_first : {out after : List ℕ} {r : ℕ} (p : Phase) (left : Bool) (u : Value) → p ≡ First → Put out 0 (text (refusal_line BadSetup ∷ [])) after r → r ≡ 0 + 5
     → (Put out 0 (listed p u (last_line left)) after r) × (r ≤ most)
 unfolding listed answer_to
-end_first p true u e h k = (rw (e, append-nil (text (refusal_line 7 ∷ []))) h, omega arith)
+end_first p true u e h k = (rw (e, append-nil (text (refusal_line BadSetup ∷ []))) h, omega arith)
 end_first p false u e h k = (rw e h, omega arith)
 
-pub end_open : {out image after : List ℕ} {r : Fed} (p : Phase) (left : Bool) → p ≡ Running → left ≡ true
-    → Takes (heard 0 (gone_on (unit_of image) (later_outcome (unit_of image) None))) out 0 image after r
-    → (Put out 0 (listed p (unit_of image) (last_line left)) after r.written) × (r.written ≤ most)
-unfolding listed answer_to
-end_open {image = image} p left e f h =
-    (rw (e, f, append-nil (text (gone_on (unit_of image) (refused 8)).lines)) h.put, omega (arith, h.small))
+pub end_open : {out image after : List ℕ} {r : Said} (p : Phase) (left : Bool) → p ≡ Running → left ≡ true
+    → Says (stated (unit_of image) (refusal_line NoEvent ∷ [])) out 0 image after r → (Put out 0 (listed p (unit_of image) (last_line left)) after r.end) × (r.end ≤ most)
+unfolding listed answer_to turn_of
+end_open {image = image} p left e f h = (rw (e, f, append-nil (text (stated (unit_of image) (refusal_line NoEvent ∷ [])).lines)) h.put, omega (arith, h.small))
 
 pub end_shut : (out : List ℕ) (p : Phase) (left : Bool) (u : Value) → p ≡ Running → left ≡ false → (Put out 0 (listed p u (last_line left)) out 0) × (0 ≤ most)
 unfolding listed

@@ -1,6 +1,5 @@
 pub mod WalkLaws
 pub mod AnswerLaws
-pub mod FeedLaws
 pub mod LineLaws
 pub mod Whole
 pub mod Table

@@ -8,7 +8,7 @@ use Rattle.frame.specs.Reading.{opened, octets_at, fixed_at, sender_at, data_at,
 use Rattle.frame.specs.Decoding.{Decoded, decode, message_at, held_at}
 use Rattle.frame.proofs.Table.{rows}
 use Rattle.text.specs.Digits.{value_of}
-use Rattle.text.specs.Reading.{digits, leading, event_in}
+use Rattle.text.specs.Reading.{leading, event_in}
 use Rattle.text.specs.Printing.{digit_of, digits_of, printed}
 use Rattle.book.specs.Book as Book
 use Rattle.book.specs.Events.{terms_in, event_of}
@@ -45,7 +45,7 @@ output =
     ∷ []
 
 session : listing (text input) ≡ text output
-unfolding listing listed events_from text setup_in answer_to event_in leading digits value_of digit_of digits_of printed set_up within_limits step turn_of does event_of terms_in sound_of setup_sound ids_sound limit_of idle_sound busy_sound kept_none kept_good kept_sound state_sound padded state_of viewed reading_in msg_message frame_message msg_octets frame_octets decode message_at held_at reading_of opened lacks fields_of octets_at fixed_at sender_at data_at extension_at extensions_from rest_at first_octet frame_of encode Book.same_terms Book.settled Book.ids_of Book.waiting_of Book.full Book.without_in Book.without Book.body_of Book.with_seen Book.vet Book.bar_confirmed Book.bar Book.on_single Book.on_multi Book.on_shot Book.on_vetted Book.on_request Book.on_end Book.begun Book.on_reply Book.result_of Book.noted Book.left_waiting Book.on_dat Book.on_fin_ok Book.unsure
+unfolding listing listed events_from text setup_in answer_to event_in leading value_of digit_of digits_of printed set_up within_limits step turn_of does event_of terms_in sound_of setup_sound ids_sound limit_of idle_sound busy_sound kept_none kept_good kept_sound state_sound padded state_of viewed reading_in msg_message frame_message msg_octets frame_octets decode message_at held_at reading_of opened lacks fields_of octets_at fixed_at sender_at data_at extension_at extensions_from rest_at first_octet frame_of encode Book.same_terms Book.settled Book.ids_of Book.waiting_of Book.full Book.without_in Book.without Book.body_of Book.with_seen Book.vet Book.bar_confirmed Book.bar Book.on_single Book.on_multi Book.on_shot Book.on_vetted Book.on_request Book.on_end Book.begun Book.on_reply Book.result_of Book.noted Book.left_waiting Book.on_dat Book.on_fin_ok Book.unsure
 session = refl
 
 pub table : (listing (text input) ≡ text output) × (map (λ (r : List ℕ × Decoded). decode r.0) rows ≡ map (λ (r : List ℕ × Decoded). r.1) rows)

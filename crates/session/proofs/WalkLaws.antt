@@ -1,22 +1,23 @@
 -- Laws of what is printed: a line with room, the lines that lie in a buffer, and a unit's answer. Closed by induction on the lines.
+use Rattle.std.specs.Prelude.{Result, Ok, Err}
 use Prim.Native.Nat.{ℕ, zero, suc, ◌+◌, ◌-◌, ◌*◌, ◌/◌, ◌%◌, ◌<◌, ◌≤◌}
 use mathlib.Core.Path.{◌≡◌, refl, ap, sym, ◌∙◌}
 use mathlib.Core.List.{List, [], ◌∷◌, ◌++◌, map, append-nil, append_assoc}
-use native.Mathlib.Nat.{add-zero}
 use native.Mathlib.Omega.{arith}
 use borrow.Author.Tests.{le-leb}
-use lib.ListN.{length, take, drop, get_or, length-append, length-drop}
-use lib.Seq.{get_or-drop, sets, sets-eq, length-sets, drop-drop, take-append_seam, drop-append_seam, length-take-le}
+use lib.ListN.{length, take, drop, length-append, length-drop, length-take, length-map}
+use lib.Seq.{sets, sets-eq, length-sets, drop-drop, take-append_seam, drop-append_seam, length-take-le}
+use Rattle.std.proofs.lemmas.List.{take_rest}
 use Rattle.octets.specs.Put.{Put}
 use Rattle.octets.proofs.Puts as Puts
 use Rattle.text.specs.Printing.{digits_of, printed, fits, printed_in}
 use Rattle.text.proofs.PrintLaws.{digits_long}
-use Rattle.book.specs.Book.{Outcome, refused, done, Out}
+use Rattle.book.specs.Book.{Outcome, refused, done}
 use Rattle.book.specs.Lines.{line_of, laid, laid_out}
 use Rattle.book.specs.Step.{turn_of, octets_of}
 use Rattle.book.specs.declared.Unit.{Unit as Value}
-use Rattle.book.specs.declared.Verdict.{Verdict}
-use Rattle.book.specs.declared.Verdict.TheVariants.{Done, Refused}
+use Rattle.book.specs.declared.Done.{Done}
+use Rattle.book.specs.declared.Refusal.{Refusal}
 use Rattle.image.specs.Image.{unit_of}
 use Rattle.session.specs.Listing.{text, refusal_line}
 use Rattle.session.specs.Walking.{length_at, lines_in, size_of, verdict_lines, verdict_size, Lays}
@@ -47,22 +48,21 @@ text-append (l ∷ ls) ks = rw (text-append ls ks) (sym (append_assoc (printed l
 
 -- ---- the lines that lie in a buffer
 
-pub length_is : (s : List ℕ) (from a b : ℕ) → a ≡ get_or s from 0 → b ≡ get_or s (from + 1) 0 → 256 * a + b ≡ length_at (drop from s)
-length_is s from a b x y = rw (get_or-drop from s 0 0, get_or-drop from s 1 0, add-zero from, x, y)
-
 -- some are printed: those that are left make up the whole
-pub record Walked (out₀ : List ℕ) (at : ℕ) (s : List ℕ) (n : ℕ) (out : List ℕ) (place from left : ℕ) : Type 0 where
+pub record Walked (out₀ : List ℕ) (at : ℕ) (s : List ℕ) (n : ℕ) (out : List ℕ) (place : ℕ) (rest : List ℕ) (left : ℕ) : Type 0 where
   pub shown : List ℕ
   pub put : Put out₀ at shown out place
-  pub whole : shown ++ text (lines_in left (drop from s)) ≡ text (lines_in n s)
-  pub inside : from + size_of left (drop from s) ≤ length s
-  pub room : place + 2 * size_of left (drop from s) ≤ length out₀
+  pub whole : shown ++ text (lines_in left rest) ≡ text (lines_in n s)
+  pub inside : size_of left rest ≤ length rest
+  pub room : place + 2 * size_of left rest ≤ length out₀
   pub wide : length out ≡ length out₀
 
-pub walk_start : (out : List ℕ) (at : ℕ) (s : List ℕ) (n : ℕ) → size_of n s ≤ length s → at + 2 * size_of n s ≤ length out → Walked out at s n out at 0 n
-walk_start out at s n h k = record { shown = []; put = Puts.none out at; whole = refl; inside = omega arith; room = omega arith; wide = refl }
+pub walk_start : (out : List ℕ) (at : ℕ) (s : List ℕ) (n : ℕ) → size_of n s ≤ length s → at + 2 * size_of n s ≤ length out → Walked out at s n out at s (n - 0)
+walk_start out at s n h k =
+    let z : n - 0 ≡ n = omega arith in
+    rw z (record { shown = []; put = Puts.none out at; whole = refl; inside = h; room = k; wide = refl })
 
-module _ {out₀ s out : List ℕ} {at n place from left : ℕ} (w : Walked out₀ at s n out place from left) where
+module _ {out₀ s out rest : List ℕ} {at n place left : ℕ} (w : Walked out₀ at s n out place rest left) where
   pub walk_end : left ≤ 0 → Put out₀ at (text (lines_in n s)) out place
   unfolding lines_in text
   walk_end h =
@@ -71,61 +71,58 @@ module _ {out₀ s out : List ℕ} {at n place from left : ℕ} (w : Walked out�
       Puts.put_as (sym (append-nil w.shown) ∙ e) w.put
 
   -- the line at the front of those that are left
-  size_left : 0 < left → size_of left (drop from s) ≡ 2 + length_at (drop from s) + size_of (left - 1) (drop (from + (2 + length_at (drop from s))) s)
+  size_left : 0 < left → size_of left rest ≡ 2 + length_at rest + size_of (left - 1) (drop (2 + length_at rest) rest)
   unfolding size_of
   size_left h = go left h
     where
-      go : (k : ℕ) → 0 < k → size_of k (drop from s) ≡ 2 + length_at (drop from s) + size_of (k - 1) (drop (from + (2 + length_at (drop from s))) s)
+      go : (k : ℕ) → 0 < k → size_of k rest ≡ 2 + length_at rest + size_of (k - 1) (drop (2 + length_at rest) rest)
       go zero l = absurd (omega arith)
-      go (suc k) l = let e : suc k - 1 ≡ k = omega arith in rw (e, drop-drop (2 + length_at (drop from s)) from s)
+      go (suc k) l = let e : suc k - 1 ≡ k = omega arith in rw e
 
-  text_left : 0 < left → text (lines_in left (drop from s))
-      ≡ printed (take (length_at (drop from s)) (drop (from + 2) s)) ++ text (lines_in (left - 1) (drop (from + (2 + length_at (drop from s))) s))
+  text_left : 0 < left → text (lines_in left rest) ≡ printed (take (length_at rest) (drop 2 rest)) ++ text (lines_in (left - 1) (drop (2 + length_at rest) rest))
   unfolding lines_in text
   text_left h = go left h
     where
-      go : (k : ℕ) → 0 < k → text (lines_in k (drop from s))
-          ≡ printed (take (length_at (drop from s)) (drop (from + 2) s)) ++ text (lines_in (k - 1) (drop (from + (2 + length_at (drop from s))) s))
+      go : (k : ℕ) → 0 < k → text (lines_in k rest) ≡ printed (take (length_at rest) (drop 2 rest)) ++ text (lines_in (k - 1) (drop (2 + length_at rest) rest))
       go zero l = absurd (omega arith)
-      go (suc k) l = let e : suc k - 1 ≡ k = omega arith in rw (e, drop-drop (2 + length_at (drop from s)) from s, drop-drop 2 from s)
+      go (suc k) l = let e : suc k - 1 ≡ k = omega arith in rw e
 
-  pub walk_has : 0 < left → from + 1 < length s
+  pub walk_has : 0 < left → 2 ≤ length rest
   walk_has h = omega (arith, w.inside, size_left h)
 
-  module _ (more : 0 < left) (long : ℕ) (is : long ≡ length_at (drop from s)) where
-    pub walk_within : from + 2 + long ≤ length s
+  module _ (more : 0 < left) (long : ℕ) (is : long ≡ length_at rest) where
+    pub walk_within : 2 + long ≤ length rest
     walk_within = omega (arith, w.inside, size_left more, is)
 
-    line_long : length (take long (drop (from + 2) s)) ≡ long
-    line_long = length-take-le long (drop (from + 2) s) (omega (arith, walk_within, length-drop (from + 2) s))
+    line_long : length (take long (drop 2 rest)) ≡ long
+    line_long = length-take-le long (drop 2 rest) (omega (arith, walk_within, length-drop 2 rest))
 
-    pub walk_room : (line : List ℕ) → line ≡ take long (drop (from + 2) s) → place + (2 * length line + 1) ≤ length out
+    pub walk_room : (line : List ℕ) → line ≡ take long (drop 2 rest) → place + (2 * length line + 1) ≤ length out
     walk_room line e =
         let l : length line ≡ long = ap length e ∙ line_long in
         omega (arith, w.room, size_left more, is, w.wide)
 
-    pub walk_step : (line : List ℕ) (r : ℕ) (after : List ℕ) → line ≡ take long (drop (from + 2) s)
-        → r ≡ place + length (printed_in (length out) place line) → after ≡ sets out place (printed_in (length out) place line)
-        → Walked out₀ at s n after r (from + 2 + long) (left - 1)
-    walk_step line r after e p q =
+    pub walk_step : (line next : List ℕ) (r : ℕ) (after : List ℕ) → line ≡ take long (take (length rest - 2) (drop 2 rest))
+        → next ≡ drop long (take (length rest - 2) (drop 2 rest)) → r ≡ place + length (printed_in (length out) place line) → after ≡ sets out place (printed_in (length out) place line)
+        → (k : ℕ) → k ≡ left - 1 → Walked out₀ at s n after r next k
+    walk_step line next r after e₀ f₀ p q m i =
+        let b : take (length rest - 2) (drop 2 rest) ≡ drop 2 rest = take_rest rest 2 in
+        let e : line ≡ take long (drop 2 rest) = e₀ ∙ ap (take long) b in
+        let f : next ≡ drop (2 + long) rest = f₀ ∙ ap (drop long) b ∙ drop-drop long 2 rest in
         let l : length line ≡ long = ap length e ∙ line_long in
         let k = print_put out line place r after (walk_room line e) p q in
-        let m : r ≡ place + (2 * long + 1) = omega (arith, k.place, printed_long line) in
-        let f : from + (2 + length_at (drop from s)) ≡ from + 2 + long = omega (arith, is) in
-        let z : size_of left (drop from s) ≡ 2 + long + size_of (left - 1) (drop (from + 2 + long) s) = rw (f, ← is) at (size_left more) in
-        let t : text (lines_in left (drop from s)) ≡ printed line ++ text (lines_in (left - 1) (drop (from + 2 + long) s)) = rw (f, ← is, ← e) at (text_left more) in
-        record {
+        let j : r ≡ place + (2 * long + 1) = omega (arith, k.place, printed_long line) in
+        let z : size_of left rest ≡ 2 + long + size_of (left - 1) next = rw (← is, ← f) at (size_left more) in
+        let t : text (lines_in left rest) ≡ printed line ++ text (lines_in (left - 1) next) = rw (← is, ← f, ← e) at (text_left more) in
+        let d : length next ≡ length rest - (2 + long) = ap length f ∙ length-drop (2 + long) rest in
+        rw i (record {
           shown = w.shown ++ printed line;
           put = Puts.then w.put k;
           whole = append_assoc w.shown (printed line) _ ∙ ap (λ x. w.shown ++ x) (sym t) ∙ w.whole;
           inside = omega (arith, w.inside);
           room = omega (arith, w.room);
           wide = ap length q ∙ length-sets out place (printed_in (length out) place line) ∙ w.wide;
-        }
-
--- the part of the buffer that is printed
-pub line_as : (s : List ℕ) (from long : ℕ) → take (from + 2 + long - (from + 2)) (drop (from + 2) s) ≡ take long (drop (from + 2) s)
-line_as s from long = let e : from + 2 + long - (from + 2) ≡ long = omega arith in rw e
+        })
 
 -- ---- the lines that were laid lie there
 
@@ -153,11 +150,6 @@ lies ls before after e h =
     let a = e ∙ sets-eq (laid ls) before 0 (omega arith) in
     (rw a (lines_laid ls (drop (0 + length (laid ls)) before)), rw a (size_laid ls (drop (0 + length (laid ls)) before)))
 
-take_short : (n : ℕ) (s : List ℕ) → length (take n s) ≤ n
-take_short zero s = omega arith
-take_short (suc n) [] = omega arith
-take_short (suc n) (x ∷ s) = let h = take_short n s in omega arith
-
 -- twice the octets have room for what is printed
 pub text_short : (n : ℕ) (s : List ℕ) → length (text (lines_in n s)) ≤ 2 * size_of n s
 unfolding text lines_in size_of
@@ -166,32 +158,31 @@ text_short (suc n) s =
     let l : List ℕ = take (length_at s) (drop 2 s) in
     let a = length-append (printed l) (text (lines_in n (drop (2 + length_at s) s))) in
     let b = printed_long l in
-    let c = take_short (length_at s) (drop 2 s) in
+    let c = length-take (length_at s) (drop 2 s) in
     let d = text_short n (drop (2 + length_at s) s) in
     omega arith
 
 -- ---- a unit's answer
 
-module _ (v : Verdict) (s : List ℕ) {n k : ℕ} (is : v ≡ Done n k) (size : verdict_size v s ≤ 1024) where
-  pub verdict_size_lem : size_of n s ≤ 1024
+module _ (v : Result Done Refusal) (s : List ℕ) (d : Done) (is : v ≡ Ok d) (size : verdict_size v s ≤ 1024) where
+  verdict_size_lem : size_of d.lines s ≤ 1024
   verdict_size_lem = rw is at size
 
-  pub verdict_laid : {out after : List ℕ} {at r : ℕ} → Put out at (text (lines_in n s)) after r
-      → (Put out at (text (verdict_lines v s)) after r) × (r ≤ at + 2048)
-  verdict_laid p = (rw is p, omega (arith, p.place, text_short n s, verdict_size_lem))
+  pub verdict_room : (room at : ℕ) → verdict_size v s ≤ length s → at + 2048 ≤ room → (size_of d.lines s ≤ length s) × (at + 2 * size_of d.lines s ≤ room)
+  verdict_room room at h k = (rw is at h, omega (arith, verdict_size_lem))
 
-pub verdict_refused : (v : Verdict) (s : List ℕ) {n : ℕ} {out after : List ℕ} {at r : ℕ} → v ≡ Refused n
+  pub verdict_laid : {out after : List ℕ} {at r : ℕ} → Put out at (text (lines_in d.lines s)) after r
+      → (Put out at (text (verdict_lines v s)) after r) × (r ≤ at + 2048)
+  verdict_laid p = (rw is p, omega (arith, p.place, text_short d.lines s, verdict_size_lem))
+
+pub verdict_refused : (v : Result Done Refusal) (s : List ℕ) {n : Refusal} {out after : List ℕ} {at r : ℕ} → v ≡ Err n
     → Put out at (text (refusal_line n ∷ [])) after r → r ≡ at + 5 → (Put out at (text (verdict_lines v s)) after r) × (r ≤ at + 2048)
 verdict_refused v s is p q = (rw is p, omega arith)
 
-count_lines : (os : List Out) → length (map line_of os) ≡ length os
-count_lines [] = refl
-count_lines (o ∷ os) = ap suc (count_lines os)
-
-pub shows : (u : Value) (o : Outcome) (before after image : List ℕ) (r : Verdict) → r ≡ (turn_of u o).verdict → unit_of image ≡ (turn_of u o).unit
+pub shows : (u : Value) (o : Outcome) (before after image : List ℕ) (r : Result Done Refusal) → r ≡ (turn_of u o).verdict → unit_of image ≡ (turn_of u o).unit
     → after ≡ sets before 0 (octets_of o) → 1024 ≤ length before → length (octets_of o) ≤ 1024 → Lays u o r image after
 unfolding turn_of octets_of laid_out
 shows u (refused n) before after image r e f b w h = rw e (record { lines = refl; size = omega arith; unit = f })
 shows u (done st os) before after image r e f b w h =
     let l = lies (map line_of os) before after b (omega arith) in
-    rw e (record { lines = rw (count_lines os) at l.0; size = let z = rw (count_lines os) at l.1 in omega arith; unit = f })
+    rw e (record { lines = rw (length-map os line_of) at l.0; size = let z = rw (length-map os line_of) at l.1 in omega arith; unit = f })

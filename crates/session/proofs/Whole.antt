@@ -16,11 +16,14 @@ use Rattle.text.specs.Reading.{leading, to_feed, event_in}
 use Rattle.book.specs.Step.{blank}
 use Rattle.book.specs.declared.Unit.{Unit as Value}
 use Rattle.image.specs.Image.{unit_of}
+use Rattle.text.specs.Hearing as Hearing
+use Rattle.text.specs.Hearing.{Taken, Feeding, resting, then}
+use Rattle.text.proofs.HearingLaws as Lines
+use Rattle.text.proofs.HearingLaws.{How, over, left, how}
 use Rattle.session.specs.Listing.{text, events_from, answer_to, listed, listing}
-use Rattle.session.specs.Feeding.{Standing, standing, fresh, unheard, Taken, line_taken, most, Feeding, resting, then, feeding, last_events, finishing}
+use Rattle.session.specs.Feeding.{State, Standing, standing, fresh, unheard, event_of, answer, longest, line_taken, most, feeding, last_events, finishing}
 use Rattle.session.specs.Runs.{Run, read, fed, finished, stopped}
 use Rattle.session.specs.declared.Phase.TheVariants.{First, Stopped}
-use Rattle.session.proofs.FeedLaws.{How, ended, over, left, how}
 
 -- ---- what is still to come
 
@@ -35,7 +38,7 @@ coming true i = passed i
 
 -- the output of a session whose input is still to come
 abbrev pub whole : Standing → List ℕ → List ℕ
-whole s i = listed s.phase s.unit (coming s.passing i)
+whole s i = listed s.state.phase s.state.unit (coming s.passing i)
 
 -- ---- a line's end
 
@@ -110,19 +113,19 @@ long_passed line (c ∷ more) h = go (long_passed (line ++ (c ∷ [])) more) (eq
 -- ---- one line
 
 -- what a line prints, and then what is still to come, is what was to come
-pub line_whole : (s : Standing) (i more : List ℕ) (t : Taken) → How s i t → whole s (i ++ more) ≡ text t.lines ++ whole t.session (drop t.taken i ++ more)
+pub line_whole : (s : Standing) (i more : List ℕ) (t : Taken State) → How longest answer s i t → whole s (i ++ more) ≡ t.text ++ whole t.reader (drop t.taken i ++ more)
 unfolding listed text
-line_whole s i more t (ended h) = go s.passing refl
+line_whole s i more t (Lines.fed h) = go s.passing refl
   where
     answered : Bool → List ℕ
-    answered p = listed s.phase s.unit (pick p None (event_in (take (to_feed i) i)) ∷ events_from [] (drop (to_feed i + 1) i ++ more))
+    answered p = listed s.state.phase s.state.unit (event_of (pick p None (Some (take (to_feed i) i))) ∷ events_from [] (drop (to_feed i + 1) i ++ more))
 
-    go : (p : Bool) → p ≡ s.passing → listed s.phase s.unit (coming s.passing (i ++ more)) ≡ answered s.passing
+    go : (p : Bool) → p ≡ s.passing → listed s.state.phase s.state.unit (coming s.passing (i ++ more)) ≡ answered s.passing
     go true e = rw (← e, over_split i more h)
     go false e = rw (← e, split [] i more h)
 line_whole s i more t (over h e) = go s.passing refl
   where
-    go : (p : Bool) → p ≡ s.passing → listed s.phase s.unit (coming s.passing (i ++ more)) ≡ text [] ++ listed s.phase s.unit (passed (drop (length i) i ++ more))
+    go : (p : Bool) → p ≡ s.passing → listed s.state.phase s.state.unit (coming s.passing (i ++ more)) ≡ listed s.state.phase s.state.unit (passed (drop (length i) i ++ more))
     go true q = rw (← q, drop-length i, over_joined i more h)
     go false q =
         let l = ltb-true 4096 (length i) (rw (← q) at e) in
@@ -132,26 +135,26 @@ line_whole s i more t (left h e k) = refl
 -- ---- all lines for which there is room
 
 feeding_whole : (n room : ℕ) (s : Standing) (i more : List ℕ)
-    → whole s (i ++ more) ≡ (feeding n room s i).written ++ whole (feeding n room s i).session (drop (feeding n room s i).taken i ++ more)
-unfolding feeding
+    → whole s (i ++ more) ≡ (feeding n room s i).written ++ whole (feeding n room s i).reader (drop (feeding n room s i).taken i ++ more)
+unfolding Hearing.feeding
 feeding_whole zero room s i more = refl
-feeding_whole (suc n) room s i more = go (ltb room most) (λ r. feeding_whole n r (line_taken s i).session (drop (line_taken s i).taken i) more)
+feeding_whole (suc n) room s i more = go (ltb room most) (λ r. feeding_whole n r (line_taken s i).reader (drop (line_taken s i).taken i) more)
   where
-    t : Taken
+    t : Taken State
     t = line_taken s i
 
-    f : Feeding
-    f = feeding n (room - length (text (line_taken s i).lines)) (line_taken s i).session (drop (line_taken s i).taken i)
+    f : Feeding State
+    f = feeding n (room - length (line_taken s i).text) (line_taken s i).reader (drop (line_taken s i).taken i)
 
-    go : (x : Bool) → ((r : ℕ) → whole t.session (drop t.taken i ++ more)
-        ≡ (feeding n r t.session (drop t.taken i)).written
-        ++ whole (feeding n r t.session (drop t.taken i)).session (drop (feeding n r t.session (drop t.taken i)).taken (drop t.taken i) ++ more))
-        → whole s (i ++ more) ≡ (pick x (resting s) (then t f)).written ++ whole (pick x (resting s) (then t f)).session (drop (pick x (resting s) (then t f)).taken i ++ more)
+    go : (x : Bool) → ((r : ℕ) → whole t.reader (drop t.taken i ++ more)
+        ≡ (feeding n r t.reader (drop t.taken i)).written
+        ++ whole (feeding n r t.reader (drop t.taken i)).reader (drop (feeding n r t.reader (drop t.taken i)).taken (drop t.taken i) ++ more))
+        → whole s (i ++ more) ≡ (pick x (resting s) (then t f)).written ++ whole (pick x (resting s) (then t f)).reader (drop (pick x (resting s) (then t f)).taken i ++ more)
     go true again = refl
     go false again =
-        line_whole s i more t (how s i) ∙ ap (λ l. text t.lines ++ l) (again (room - length (text t.lines)))
-        ∙ sym (append_assoc (text t.lines) f.written _)
-        ∙ ap (λ l. text t.lines ++ f.written ++ whole f.session (l ++ more)) (drop-drop f.taken t.taken i)
+        line_whole s i more t (how longest answer s i) ∙ ap (λ l. t.text ++ l) (again (room - length t.text))
+        ∙ sym (append_assoc t.text f.written _)
+        ∙ ap (λ l. t.text ++ f.written ++ whole f.reader (l ++ more)) (drop-drop f.taken t.taken i)
 
 -- ---- the end
 
@@ -160,13 +163,13 @@ unfolding listed text answer_to
 no_more u [] = refl
 no_more u (e ∷ es) = no_more u es
 
-stopped_whole : (s : Standing) (i : List ℕ) → s.phase ≡ Stopped → whole s i ≡ []
-stopped_whole s i e = rw e (no_more s.unit (coming s.passing i))
+stopped_whole : (s : Standing) (i : List ℕ) → s.state.phase ≡ Stopped → whole s i ≡ []
+stopped_whole s i e = rw e (no_more s.state.unit (coming s.passing i))
 
 -- a line that takes nothing is open, and is the last
-left_events : (s : Standing) (held : List ℕ) (t : Taken) → How s held t → t.taken ≡ 0 → coming s.passing held ≡ last_events s held
+left_events : (s : Standing) (held : List ℕ) (t : Taken State) → How longest answer s held t → t.taken ≡ 0 → coming s.passing held ≡ last_events s held
 unfolding events_from
-left_events s held t (ended h) e = absurd (omega arith)
+left_events s held t (Lines.fed h) e = absurd (omega arith)
 left_events s [] t (over h o) e = go s.passing o
   where
     go : (p : Bool) → either p (ltb 4096 0) ≡ true → coming p [] ≡ pick (either p (ltb 0 0)) (None ∷ []) []
@@ -179,7 +182,7 @@ left_events s (c ∷ held) t (left h p k) e =
     rw (p, lt-ltb 0 (suc (length held)) (omega arith)) (ap (events_from []) (sym (append-nil (c ∷ held))) ∙ j)
 
 none_events : (s : Standing) (held : List ℕ) (room : ℕ) → most ≤ room → (feeding (length held) room s held).taken ≡ 0 → coming s.passing held ≡ last_events s held
-unfolding feeding events_from
+unfolding Hearing.feeding events_from
 none_events s [] room h e = go s.passing
   where
     go : (p : Bool) → coming p [] ≡ pick (either p (ltb 0 0)) (None ∷ []) []
@@ -187,12 +190,12 @@ none_events s [] room h e = go s.passing
     go false = refl
 none_events s (c ∷ held) room h e =
     let f = rw (le-ltb room most h) at e in
-    left_events s (c ∷ held) (line_taken s (c ∷ held)) (how s (c ∷ held)) (omega arith)
+    left_events s (c ∷ held) (line_taken s (c ∷ held)) (how longest answer s (c ∷ held)) (omega arith)
 
 finished_whole : (s : Standing) (held : List ℕ) (room last : ℕ) → most ≤ room → (feeding (length held) room s held).taken ≡ 0 → most ≤ last
     → finishing last s held ≡ whole s held
 unfolding finishing
-finished_whole s held room last h e k = rw (le-ltb last most k) (ap (listed s.phase s.unit) (sym (none_events s held room h e)))
+finished_whole s held room last h e k = rw (le-ltb last most k) (ap (listed s.state.phase s.state.unit) (sym (none_events s held room h e)))
 
 -- ---- the theorem
 
@@ -225,7 +228,7 @@ pub record Ran (s : Standing) (held input : List ℕ) : Type 0 where
   pub run : Run s held input output
 
 drains : (n : ℕ) (s : Standing) (held : List ℕ) → length held ≤ n → Ran s held []
-unfolding feeding
+unfolding Hearing.feeding
 drains zero s [] h = record { output = finishing most s []; run = finished most most (omega arith) refl (omega arith) }
 drains zero s (c ∷ held) h = absurd (omega arith)
 drains (suc n) s held h = go (feeding (length held) most s held).taken refl (drains n)
@@ -233,7 +236,7 @@ drains (suc n) s held h = go (feeding (length held) most s held).taken refl (dra
     go : (k : ℕ) → (feeding (length held) most s held).taken ≡ k → ((t : Standing) (l : List ℕ) → length l ≤ n → Ran t l []) → Ran s held []
     go zero e f = record { output = finishing most s held; run = finished most most (omega arith) e (omega arith) }
     go (suc k) e f =
-        let r = f (feeding (length held) most s held).session (drop (feeding (length held) most s held).taken held)
+        let r = f (feeding (length held) most s held).reader (drop (feeding (length held) most s held).taken held)
         (omega (arith, length-drop (feeding (length held) most s held).taken held)) in
         record { output = (feeding (length held) most s held).written ++ r.output; run = fed most r.run }
 

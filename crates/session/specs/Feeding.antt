@@ -1,63 +1,63 @@
--- The listing in parts: what a session makes of the input that it is handed, however that is cut. That the parts give the whole is a theorem
--- (proofs/Whole).
-use Rattle.std.specs.Prelude.{ℕ, zero, suc, ◌+◌, ◌-◌, ◌≤◌, ◌≡◌, Bool, true, false, List, [], ◌∷◌, ◌++◌, ltb, length, take, drop, None, Option}
+-- The listing in parts: what a session makes of the input that it is handed, however that is cut. Lines heard one after the other are text's (Hearing);
+-- here is what a session is and how it answers a line. That the parts give the whole is a theorem (proofs/Whole).
+use Rattle.std.specs.Prelude.{ℕ, ◌≡◌, Bool, false, List, [], ◌∷◌, ltb, length, None, Option, Some}
 use Rattle.octets.specs.Choice.{pick, either}
-use Rattle.octets.specs.Put.{Put}
-use Rattle.text.specs.Reading.{to_feed, event_in}
+use Rattle.text.specs.Reading.{event_in}
+use Rattle.text.specs.Hearing as Hearing
+use Rattle.text.specs.declared.hearing.Fed.{Fed}
+use Rattle.text.specs.declared.hearing.Reader.{Reader}
 use Rattle.book.specs.Step.{blank}
 use Rattle.book.specs.declared.Unit.{Unit as Value}
 use Rattle.image.specs.Image.{unit_of, image_of}
 use Rattle.session.specs.Listing.{Answer, answer_to, text, listed}
 use Rattle.session.specs.declared.Phase.{Phase}
 use Rattle.session.specs.declared.Phase.TheVariants.{First}
-use Rattle.session.specs.declared.Session.{Session}
-use Rattle.session.specs.declared.Fed.{Fed}
 
--- A session where it stands: its unit, its phase, and whether a line that is too long is being passed over.
-pub record Standing : Type 0 where
+-- What a session is between two lines: its unit, and its phase.
+pub record State : Type 0 where
   pub unit : Value
   pub phase : Phase
-  pub passing : Bool
 
--- the code's session, with the image of its unit that is lent beside it
-abbrev pub standing : Session → (image : List ℕ) → Standing
-standing s image = record { unit = unit_of image; phase = s.phase; passing = s.passing }
+-- the code's phase, with the image of the unit that is lent beside it
+abbrev pub state_of : Phase → (image : List ℕ) → State
+state_of p image = record { unit = unit_of image; phase = p }
+
+-- A session where it stands: its state, and whether a line that is too long is being passed over.
+abbrev pub Standing : Type 0
+Standing = Hearing.Standing State
+
+abbrev pub standing : Reader Phase → (image : List ℕ) → Standing
+standing s image = Hearing.standing state_of s image
 
 -- a session before its first line
 abbrev pub fresh : Standing
-fresh = record { unit = blank; phase = First; passing = false }
+fresh = record { state = record { unit = blank; phase = First }; passing = false }
 
 -- the code's; whatever image is lent with it, the first line writes a new one (proofs/Whole, `runs_over`)
-abbrev pub unheard : Session
-unheard = record { phase = First; passing = false }
+abbrev pub unheard : Reader Phase
+unheard = record { hearer = First; passing = false }
 
 -- ---- one line
 
--- What was taken of the input, what the session is then, and the lines to print.
-pub record Taken : Type 0 where
-  pub session : Standing
-  pub taken : ℕ
-  pub lines : List (List ℕ)
+-- the event that a line is; a line that was too long (None) is none
+abbrev pub event_of : Option (List ℕ) → Option (List ℕ)
+event_of None = None
+event_of (Some l) = event_in l
 
-abbrev pub heard : (taken : ℕ) → Answer → Taken
-heard n a = record { session = record { unit = a.unit; phase = a.phase; passing = false }; taken = n; lines = a.lines }
+-- an answer, as a state and the text that is printed
+abbrev pub said : Answer → Hearing.Answer State
+said a = record { state = record { unit = a.unit; phase = a.phase }; text = text a.lines }
 
--- a line is passed over
-abbrev pub passing_over : Standing → Standing
-passing_over s = record { unit = s.unit; phase = s.phase; passing = true }
+abbrev pub answer : State → Option (List ℕ) → Hearing.Answer State
+answer s l = said (answer_to s.phase s.unit (event_of l))
 
--- no line feed yet: what is longer than a line may be is passed over, all else left for later
-abbrev pub not_ended : Standing → List ℕ → Taken
-not_ended s i =
-    pick (either s.passing (ltb 4096 (length i))) (record { session = passing_over s; taken = length i; lines = [] })
-    (record { session = s; taken = 0; lines = [] })
+-- "at most 4,096 digits"
+abbrev pub longest : ℕ
+longest = 4096
 
 -- the line at the front of the input; of a line that is passed over, its end
-unfoldable pub line_taken : Standing → List ℕ → Taken
-line_taken s i =
-    pick (ltb (to_feed i) (length i))
-    (heard (to_feed i + 1) (answer_to s.phase s.unit (pick s.passing None (event_in (take (to_feed i) i)))))
-    (not_ended s i)
+abbrev pub line_taken : Standing → List ℕ → Hearing.Taken State
+line_taken = Hearing.line_taken longest answer
 
 -- ---- all lines for which there is room
 
@@ -65,33 +65,14 @@ line_taken s i =
 abbrev pub most : ℕ
 most = 2053
 
-pub record Feeding : Type 0 where
-  pub session : Standing
-  pub taken : ℕ
-  pub written : List ℕ
-
-abbrev pub resting : Standing → Feeding
-resting s = record { session = s; taken = 0; written = [] }
-
-abbrev pub then : Taken → Feeding → Feeding
-then t f = record { session = f.session; taken = t.taken + f.taken; written = text t.lines ++ f.written }
-
 -- one line after the other, at most `lines` of them, until there is no room for one more
-unfoldable pub feeding : (lines room : ℕ) → Standing → List ℕ → Feeding
-feeding zero room s i = resting s
-feeding (suc n) room s i =
-    pick (ltb room most) (resting s)
-    (then (line_taken s i) (feeding n (room - length (text (line_taken s i).lines)) (line_taken s i).session (drop (line_taken s i).taken i)))
+abbrev pub feeding : (lines room : ℕ) → Standing → List ℕ → Hearing.Feeding State
+feeding = Hearing.feeding longest most answer
 
--- what `feed` answers, the whole image, and the whole buffer
-pub record Feeds (s : Standing) (i before : List ℕ) (r : Fed) (block after : List ℕ) : Type 0 where
-  pub session : standing r.session block ≡ (feeding (length i) (length before) s i).session
-  pub image : block ≡ image_of (feeding (length i) (length before) s i).session.unit
-  pub taken : r.taken ≡ (feeding (length i) (length before) s i).taken
-  pub put : Put before 0 (feeding (length i) (length before) s i).written after r.written
-  -- no more than there is, and no more than has room
-  pub within : r.taken ≤ length i
-  pub fits : r.written ≤ length before
+-- what `feed` answers: all lines were taken for which there is room, and the whole image is that of the unit then
+pub record Feeds (s : Standing) (i before : List ℕ) (r : Fed (Reader Phase)) (block after : List ℕ) : Type 0 where
+  pub fed : Hearing.Feeds state_of (feeding (length i) (length before) s i) i before block after r
+  pub image : block ≡ image_of (feeding (length i) (length before) s i).reader.state.unit
 
 -- ---- the end of the input
 
@@ -103,4 +84,4 @@ abbrev pub last_events : Standing → (held : List ℕ) → List (Option (List �
 last_events s held = last_line (either s.passing (ltb 0 (length held)))
 
 unfoldable pub finishing : (room : ℕ) → Standing → (held : List ℕ) → List ℕ
-finishing room s held = pick (ltb room most) [] (listed s.phase s.unit (last_events s held))
+finishing room s held = pick (ltb room most) [] (listed s.state.phase s.state.unit (last_events s held))

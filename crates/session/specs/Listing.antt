@@ -1,6 +1,6 @@
 -- THE LISTING, from the octets of its input to those of its output. 01, "Events, lines and the listing": "The listing program reads standard input
 -- as lower-case hexadecimal, one event a line, at most 4,096 digits, each line ended by a line feed."
-use Rattle.std.specs.Prelude.{ℕ, ◌+◌, ◌*◌, List, [], ◌∷◌, ◌++◌, map, eqb, drop, get_or, None, Option, Some}
+use Rattle.std.specs.Prelude.{ℕ, ◌+◌, ◌*◌, List, [], ◌∷◌, ◌++◌, map, eqb, drop, get_or, None, Option, Some, Result, Ok, Err}
 use Rattle.octets.specs.Choice.{pick}
 use Rattle.text.specs.Reading.{event_in}
 use Rattle.text.specs.Printing.{printed}
@@ -9,8 +9,10 @@ use Rattle.book.specs.Lines.{line_of}
 use Rattle.book.specs.Step.{step, turn_of, blank, set_up}
 use Rattle.book.specs.declared.Unit.{Unit as Value}
 use Rattle.book.specs.declared.Turn.{Turn}
-use Rattle.book.specs.declared.Verdict.{Verdict}
-use Rattle.book.specs.declared.Verdict.TheVariants.{Done, Refused}
+use Rattle.book.specs.Refusals.{refusal_number}
+use Rattle.book.specs.declared.Done.{Done}
+use Rattle.book.specs.declared.Refusal.{Refusal}
+use Rattle.book.specs.declared.Refusal.TheVariants.{BadSetup, NoEvent}
 use Rattle.session.specs.declared.Phase.{Phase}
 use Rattle.session.specs.declared.Phase.TheVariants.{First, Running, Stopped}
 
@@ -35,8 +37,8 @@ text [] = []
 text (l ∷ ls) = printed l ++ text ls
 
 -- "`ff` and the refusal number as one octet"
-abbrev pub refusal_line : (number : ℕ) → List ℕ
-refusal_line n = 0xff ∷ n ∷ []
+abbrev pub refusal_line : Refusal → List ℕ
+refusal_line r = 0xff ∷ refusal_number r ∷ []
 
 -- "`f0` and the state"
 abbrev pub state_line : Value → List ℕ
@@ -55,7 +57,7 @@ abbrev pub two : List ℕ → ℕ → ℕ
 two s i = 256 * get_or s i 0 + get_or s (i + 1) 0
 
 abbrev pub no_setup : Turn
-no_setup = record { unit = blank; verdict = Refused 7 }
+no_setup = record { unit = blank; verdict = Err BadSetup }
 
 -- "Its first line is setup: kind 00, then start, end and inactivity limits (2 octets each, 1..65,535), then the unit's name, 1..32 octets."
 unfoldable pub setup_in : List ℕ → Turn
@@ -66,20 +68,20 @@ first_turn None = no_setup
 first_turn (Some s) = setup_in s
 
 -- "After a good setup it prints `f000`; after any other first line, or none at all, `ff07`, and stops."
-abbrev pub begun : Value → Verdict → Answer
-begun u (Done n k) = record { phase = Running; unit = u; lines = state_line u ∷ [] }
-begun u (Refused n) = record { phase = Stopped; unit = u; lines = refusal_line n ∷ [] }
+abbrev pub begun : Value → Result Done Refusal → Answer
+begun u (Ok d) = record { phase = Running; unit = u; lines = state_line u ∷ [] }
+begun u (Err r) = record { phase = Stopped; unit = u; lines = refusal_line r ∷ [] }
 
 -- ---- each later line
 
 -- "Later, an empty line, an odd count, … is refusal 08."
 abbrev pub later_outcome : Value → Option (List ℕ) → Outcome
-later_outcome u None = refused 8
+later_outcome u None = refused NoEvent
 later_outcome u (Some s) = step 1024 u s
 
 -- "the output lines, or `ff` and the refusal number"
 abbrev pub outcome_lines : Outcome → List (List ℕ)
-outcome_lines (refused n) = refusal_line n ∷ []
+outcome_lines (refused r) = refusal_line r ∷ []
 outcome_lines (done st os) = map line_of os
 
 -- "For each later line it prints the output lines, or `ff` and the refusal number as one octet, then `f0` and the state"
@@ -95,7 +97,7 @@ answer_to Stopped u e = record { phase = Stopped; unit = u; lines = [] }
 
 -- where the input ends: "or none at all"
 abbrev pub at_end : Phase → List ℕ
-at_end First = text (refusal_line 7 ∷ [])
+at_end First = text (refusal_line BadSetup ∷ [])
 at_end Running = []
 at_end Stopped = []
 

@@ -1,175 +1,102 @@
 // What a line of the input leaves and prints: the first line, each later one, and a line that is none.
-ghost use Rattle.std.specs.Prelude.{◌≡◌, ◌≤◌, ◌<◌, ◌+◌, length, None, Some};
+ghost use Rattle.std.specs.Prelude.{◌≤◌, ◌+◌, ◌++◌, [], length};
 ghost use Rattle.octets.specs.Put.{Put};
+ghost use Rattle.text.specs.Reading.{held_in};
 ghost use Rattle.book.specs.Step.{step};
 ghost use Rattle.image.specs.Image.{unit_of};
-ghost use Rattle.session.specs.Listing.{no_setup, two, setup_in, begun, gone_on, later_outcome, answer_to, listed};
-ghost use Rattle.session.specs.Feeding.{heard, most, last_line};
-ghost use Rattle.session.specs.Walking.{Begins, Lays, Takes, stated, stopped_at};
+ghost use Rattle.session.specs.Listing.{setup_in, begun, answer_to, listed};
+ghost use Rattle.session.specs.Feeding.{most, last_line};
+ghost use Rattle.session.specs.Walking.{Begins, Lays, Says, stated, verdict_lines, verdict_size};
 
-use crate::{Fed, Phase, Session, walk};
-use book::Verdict;
+use crate::{Phase, walk};
+use book::{Refusal, Verdict};
+use image::seen::Seen;
 
-// Any first line but a setup.
-fn no_setup(unit: &mut [u8; 618]) -> Verdict
-    ensures { Begins no_setup result unit.new }
-{
-    let nothing = [0u8; 1];
-    engine::setup(unit, 0, 0, 0, &nothing[..0])
+// The phase after a line, and the place after what it printed.
+#[derive(Clone, Copy)]
+pub(crate) struct Said {
+    pub phase: Phase,
+    pub end: usize,
 }
 
-fn two(s: &[u8], i: usize) -> u16
-    requires { i + 1 < length s.now }
-    ensures { result ≡ two s.now i }
-{
-    256 * octets::wide16(s[i]) + octets::wide16(s[i + 1])
-}
-
-// The setup that an event is.
-fn setup_in(unit: &mut [u8; 618], event: &[u8]) -> Verdict
+// The setup that an event is. Any other is refused as one without a name, which leaves a unit with every number 0.
+fn set_up(unit: &mut [u8; 618], event: &[u8]) -> Verdict
     ensures { Begins (setup_in event.now) result unit.new }
 {
-    if event.len() < 7 {
-        return no_setup(unit);
+    match event {
+        [0, a, b, c, d, e, f, name @ ..] => {
+            let start = u16::from_be_bytes([*a, *b]);
+            let end = u16::from_be_bytes([*c, *d]);
+            let inactivity = u16::from_be_bytes([*e, *f]);
+            engine::setup(unit, start, end, inactivity, name)
+        }
+        _ => engine::setup(unit, 0, 0, 0, &[]),
     }
-    if event[0] == 0 {
-        let start = two(event, 1);
-        let end = two(event, 3);
-        let inactivity = two(event, 5);
-        return engine::setup(unit, start, end, inactivity, &event[7..]);
-    }
-    no_setup(unit)
 }
 
 // Prints `f0` and the state of a unit: the session goes on with it.
-fn stated(unit: &[u8; 618], next: usize, out: &mut [u8], at: usize) -> Fed
+fn state(unit: &[u8; 618], out: &mut [u8], at: usize) -> Said
     requires { at + 5 ≤ length out.old }
-    ensures { Takes (stated (unit_of unit.now) next) out.old at unit.now out.new result }
+    ensures { Says (stated (unit_of unit.now) []) out.old at unit.now out.new result }
 {
-    let state = image::state(unit);
-    let end = walk::print_two(out, at, 240, state);
-    let phase = Phase::Running;
-    let session = Session {
-        phase: phase,
-        passing: false,
-    };
-    Fed {
-        session: session,
-        taken: next,
-        written: end,
+    Said {
+        phase: Phase::Running,
+        end: walk::print_two(out, at, 240, unit.state()),
     }
 }
 
-// The session stops.
-fn stopped(next: usize, at: usize) -> Fed
-    ensures { result ≡ stopped_at next at }
-{
-    let phase = Phase::Stopped;
-    let session = Session {
-        phase: phase,
-        passing: false,
-    };
-    Fed {
-        session: session,
-        taken: next,
-        written: at,
-    }
-}
-
-// The first line.
-fn begin(verdict: Verdict, unit: &[u8; 618], next: usize, out: &mut [u8], at: usize) -> Fed
+// The first line: the state, or the refusal, and the session stops.
+fn begin(verdict: Verdict, unit: &[u8; 618], out: &mut [u8], at: usize) -> Said
     requires { at + 5 ≤ length out.old }
-    ensures { Takes (heard next (begun (unit_of unit.now) verdict)) out.old at unit.now out.new result }
+    ensures { Says (begun (unit_of unit.now) verdict) out.old at unit.now out.new result }
 {
     match verdict {
-        Verdict::Done {
-            lines: _,
-            octets: _,
-        } => stated(unit, next, out, at),
-        Verdict::Refused(number) => {
-            let end = walk::print_two(out, at, 255, number);
-            stopped(next, end)
-        }
+        Ok(_) => state(unit, out, at),
+        Err(refusal) => Said {
+            phase: Phase::Stopped,
+            end: walk::print_refusal(out, at, refusal),
+        },
     }
 }
 
 // A unit's turn at an event, its lines laid into the buffer.
-fn turned(unit: &mut [u8], event: &[u8], laid: &mut [u8; 1024]) -> Verdict
-    requires { length unit.old ≡ 618 }
+fn turn(unit: &mut [u8; 618], event: &[u8], laid: &mut [u8; 1024]) -> Verdict
     ensures { Lays (unit_of unit.old) (step 1024 (unit_of unit.old) event.now) result unit.new laid.new }
 {
     engine::handle(unit, event, laid)
 }
 
-// A later line.
-fn go_on(
+// A later line: what the unit answers, and then its state. Inlined, as `answer` is: called, the two cost a twentieth of the listing's time.
+#[inline(always)]
+fn go_on(verdict: Verdict, laid: &[u8], unit: &[u8; 618], out: &mut [u8], at: usize) -> Said
+    requires within { verdict_size verdict laid.now ≤ length laid.now }
+    requires few { verdict_size verdict laid.now ≤ 1024 }
+    requires room { at + most ≤ length out.old }
+    ensures { Says (stated (unit_of unit.now) (verdict_lines verdict laid.now)) out.old at unit.now out.new result }
+{
+    let end = walk::print_verdict(out, at, laid, verdict);
+    state(unit, out, end)
+}
+
+// A line of the input, as the event that it is, or none. `out` and `at` stay two: a struct of them would be made in `hear`, which is lent them apart, and
+// taken apart in `text::print`, so it is no plainer.
+#[inline(always)]
+pub(crate) fn answer(
+    phase: Phase,
     unit: &mut [u8; 618],
-    next: usize,
-    event: &[u8],
+    event: Option<&[u8]>,
     laid: &mut [u8; 1024],
     out: &mut [u8],
     at: usize,
-) -> Fed
+) -> Said
     requires { at + most ≤ length out.old }
-    ensures { Takes (heard next (gone_on (unit_of unit.old) (later_outcome (unit_of unit.old) (Some event.now)))) out.old at unit.new out.new result }
+    ensures { Says (answer_to phase (unit_of unit.old) (held_in event.entry)) out.old at unit.new out.new result }
 {
-    let verdict = turned(unit, event, laid);
-    let place = walk::print_verdict(out, at, laid, verdict);
-    stated(unit, next, out, place)
-}
-
-// A later line that is no event.
-fn go_on_refused(unit: &[u8; 618], next: usize, out: &mut [u8], at: usize) -> Fed
-    requires { at + 10 ≤ length out.old }
-    ensures { Takes (heard next (gone_on (unit_of unit.now) (later_outcome (unit_of unit.now) None))) out.old at unit.now out.new result }
-{
-    let place = walk::print_two(out, at, 255, 8);
-    stated(unit, next, out, place)
-}
-
-// A line that is an event.
-pub(crate) fn heard(
-    s: Session,
-    unit: &mut [u8; 618],
-    next: usize,
-    event: &[u8],
-    laid: &mut [u8; 1024],
-    out: &mut [u8],
-    at: usize,
-) -> Fed
-    requires { at + most ≤ length out.old }
-    ensures { Takes (heard next (answer_to s.phase (unit_of unit.old) (Some event.now))) out.old at unit.new out.new result }
-{
-    let phase = s.phase;
-    match phase {
-        Phase::First => {
-            let verdict = setup_in(unit, event);
-            begin(verdict, unit, next, out, at)
-        }
-        Phase::Running => go_on(unit, next, event, laid, out, at),
-        Phase::Stopped => stopped(next, at),
-    }
-}
-
-// A line that is none.
-pub(crate) fn refused(
-    s: Session,
-    unit: &mut [u8; 618],
-    next: usize,
-    out: &mut [u8],
-    at: usize,
-) -> Fed
-    requires { at + most ≤ length out.old }
-    ensures { Takes (heard next (answer_to s.phase (unit_of unit.old) None)) out.old at unit.new out.new result }
-{
-    let phase = s.phase;
-    match phase {
-        Phase::First => {
-            let verdict = no_setup(unit);
-            begin(verdict, unit, next, out, at)
-        }
-        Phase::Running => go_on_refused(unit, next, out, at),
-        Phase::Stopped => stopped(next, at),
+    match (phase, event) {
+        (Phase::First, _) => begin(set_up(unit, event.unwrap_or(&[])), unit, out, at),
+        (Phase::Running, Some(event)) => go_on(turn(unit, event, laid), laid, unit, out, at),
+        (Phase::Running, None) => go_on(Err(Refusal::NoEvent), &[], unit, out, at),
+        (Phase::Stopped, _) => Said { phase, end: at },
     }
 }
 
@@ -179,14 +106,8 @@ pub(crate) fn at_end(phase: Phase, left: bool, unit: &[u8; 618], out: &mut [u8])
     ensures { (Put out.old 0 (listed phase (unit_of unit.now) (last_line left)) out.new result) × (result ≤ most) }
 {
     match phase {
-        Phase::First => walk::print_two(out, 0, 255, 7),
-        Phase::Running => {
-            if left {
-                let fed = go_on_refused(unit, 0, out, 0);
-                return fed.written;
-            }
-            0
-        }
-        Phase::Stopped => 0,
+        Phase::First => walk::print_refusal(out, 0, Refusal::BadSetup),
+        Phase::Running if left => go_on(Err(Refusal::NoEvent), &[], unit, out, 0).end,
+        _ => 0,
     }
 }

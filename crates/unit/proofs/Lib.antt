@@ -1,3 +1,2 @@
-pub mod EntryLaws
 pub mod OneResult
 pub mod Refusals

@@ -1,2 +1,1 @@
 pub mod UserData
-pub mod Vetting

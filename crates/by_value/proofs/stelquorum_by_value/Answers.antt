@@ -3,4 +3,4 @@ use Rattle.by_value.proofs.CallLaws.{numbered}
 use Rattle.by_value.proofs.stelquorum_by_value.Goals as goal
 
 pub returns : goal.returns
-returns c = numbered _ _ _ c.handle-verdict.ensures c.refusal_in.ensures
+returns c = numbered _ _ _ c.handle.ensures c.refusal_in.ensures

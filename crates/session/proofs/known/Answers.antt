@@ -3,4 +3,4 @@ use native.Mathlib.Omega.{arith}
 use Rattle.session.proofs.known.Goals as goal
 
 pub returns : goal.returns
-returns c = record { small = λ i. omega (arith, c.shared_slice_known-1.given i) }
+returns c = record { small = λ i. omega (arith, c.type_inv.block i) }

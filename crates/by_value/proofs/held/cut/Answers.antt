@@ -3,8 +3,8 @@ use Rattle.image.proofs.ImageLaws.{cut_over, cut_within}
 use borrow.Author.Rules.{rules}
 use Rattle.by_value.proofs.held.cut.Goals as goal
 
-pub returns-then-most-n : goal.returns-then-most-n
-returns-then-most-n c = cut_over _ _ (search rules)
+pub returns-then-from-n-clause-value : goal.returns-then-from-n-clause-value
+returns-then-from-n-clause-value c = search (cut_over, rules)
 
-pub returns : goal.returns
-returns c = cut_within _ _ (search rules)
+pub returns-else-from-n-clause-value : goal.returns-else-from-n-clause-value
+returns-else-from-n-clause-value c = search (cut_within, rules)

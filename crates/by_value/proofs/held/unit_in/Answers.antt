@@ -1,6 +1,12 @@
 -- `by_value::held::unit_in` meets its contract. Closed by ImageLaws: each part that was read is the unit's.
-use Rattle.image.proofs.ImageLaws.{unit_is}
+use Rattle.image.specs.Image.{unit_of, waiting_in}
+use Rattle.image.proofs.ImageLaws.{unit_is, waiting_is}
 use Rattle.by_value.proofs.held.unit_in.Goals as goal
 
 pub returns : goal.returns
-returns c = unit_is c.args.s.now c.name_in-name.ensures c.waiting_in-waiting.ensures c.kept_in-kept.ensures c.terms_in-terms.ensures c.two.ensures c.two-2.ensures c.two-3.ensures c.two-4.ensures c.wide.ensures.0 c.wide-2.ensures.0 c.two-5.ensures
+unfolding unit_of waiting_in
+returns c =
+    rw c.state.ensures
+    (unit_is c.args.image.now c.copy_from_slice.ensures.after
+    (waiting_is c.args.image.now c.id.ensures c.id-2.ensures c.id-3.ensures c.id-4.ensures c.id-5.ensures c.id-6.ensures c.id-7.ensures c.id-8.ensures)
+    c.copy_from_slice-2.ensures.after c.terms.ensures c.start.ensures c.end.ensures c.inactivity.ensures c.elapsed.ensures c.letters.ensures c.count.ensures c.octets.ensures)

@@ -1,17 +1,9 @@
 -- `frame::reader::extensions` meets its contract. The invariant: what is left to read gives what the whole gives (ReaderLaws: `extensions_more`, `extensions_done`, `extensions_bad`).
-use native.Mathlib.Nat.{sub-zero}
 use mathlib.Core.Path.{sym, ◌∙◌}
 use Rattle.frame.proofs.ReaderLaws.{extension_after, extensions_done, extensions_more, extensions_bad}
 use native.Mathlib.Omega.{arith}
-use borrow.Author.Rules.{rules}
 use Rattle.std.proofs.lemmas.Result.{err_from_is_err_and}
 use Rattle.frame.proofs.reader.extensions.Goals as goal
-
-pub loop-at-init : goal.loop-at-init
-loop-at-init c = (search rules, simp sub-zero)
-
-pub overflow_add-n : goal.overflow_add-n
-overflow_add-n c = omega arith
 
 pub returns : goal.returns
 returns c = sym (extensions_done _ _ _ _ c.loop-at-test.false) ∙ c.loop-at.invariant.1

@@ -1,26 +1,35 @@
 -- `session::walk::print_laid` meets its contract. The invariant: the lines that are left, printed now, give the whole (WalkLaws: `Walked`).
-use native.Mathlib.Omega.{arith}
-use Rattle.session.proofs.WalkLaws.{walk_start, walk_has, walk_within, walk_step, walk_end, line_as}
-use borrow.Author.Rules.{rules}
+use Rattle.std.proofs.Common.{◌≡◌, arith, rules, length-drop}
+use Rattle.std.proofs.lemmas.List.{take_rest}
+use Rattle.session.specs.Walking.{length_at}
+use Rattle.session.proofs.WalkLaws.{walk_start, walk_has, walk_within, walk_step, walk_end}
 use Rattle.session.proofs.walk.print_laid.Goals as goal
 
-pub loop-left-init : goal.loop-left-init
-loop-left-init c = walk_start _ _ _ _ c.requires.0 c.requires.1
+pub loop-init : goal.loop-init
+loop-init c = walk_start _ _ _ _ c.requires.0 c.requires.1
 
-pub length_at-long-requires : goal.length_at-long-requires
-length_at-long-requires c = walk_has c.loop-left.invariant (search rules)
+pub bounds-rest-0 : goal.bounds-rest-0
+bounds-rest-0 c = omega (arith, walk_has c.loop.invariant (omega arith))
 
-pub overflow_add-begin : goal.overflow_add-begin
-overflow_add-begin c = let h = walk_within c.loop-left.invariant (search rules) _ c.length_at-long.ensures.0 in omega arith
+pub bounds-rest-1 : goal.bounds-rest-1
+bounds-rest-1 c = let h = walk_has c.loop.invariant (omega arith) in search (rules, h)
 
-pub overflow_add-end : goal.overflow_add-end
-overflow_add-end c = let h = walk_within c.loop-left.invariant (search rules) _ c.length_at-long.ensures.0 in omega arith
+pub slice_bounds-split_at-count : goal.slice_bounds-split_at-count
+slice_bounds-split_at-count c = walk_has c.loop.invariant (omega arith)
 
-pub slice_bounds-print-end : goal.slice_bounds-print-end
-slice_bounds-print-end c = let h = walk_within c.loop-left.invariant (search rules) _ c.length_at-long.ensures.0 in search (rules, h)
+pub slice_bounds-split_at-start : goal.slice_bounds-split_at-start
+slice_bounds-split_at-start c = let h = walk_has c.loop.invariant (omega arith) in search (rules, h)
 
-pub loop-left-preserved : goal.loop-left-preserved
-loop-left-preserved c = walk_step c.loop-left.invariant (search rules) _ c.length_at-long.ensures.0 _ _ _ (line_as c.args.laid.now c.loop-left.from c.length_at-long.result) c.print-place.ensures.0 c.print-place.ensures.1
+pub split_at-requires : goal.split_at-requires
+split_at-requires c =
+    let e : c.from-long.result ≡ length_at c.loop.rest.now = omega arith in
+    let h = walk_within c.loop.invariant (omega arith) _ e in
+    rw (take_rest c.loop.rest.now 2) (omega (arith, h, length-drop 2 c.loop.rest.now))
+
+pub loop-preserved : goal.loop-preserved
+loop-preserved c =
+    let e : c.from-long.result ≡ length_at c.loop.rest.now = omega arith in
+    walk_step c.loop.invariant (omega arith) _ e _ _ _ _ c.split_at.ensures.front c.split_at.ensures.back c.print-place.ensures.0 c.print-place.ensures.1 _ (omega arith)
 
 pub returns : goal.returns
-returns c = walk_end c.loop-left.invariant (search rules)
+returns c = walk_end c.loop.invariant (omega arith)

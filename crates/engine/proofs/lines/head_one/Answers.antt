@@ -1,6 +1,0 @@
--- `engine::lines::head_one` meets its contract. Closed by `then` of Puts.
-use Rattle.octets.proofs.Puts.{then}
-use Rattle.engine.proofs.lines.head_one.Goals as goal
-
-pub returns : goal.returns
-returns c = then c.put_length-next.ensures c.one.ensures

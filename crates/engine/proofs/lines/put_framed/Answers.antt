@@ -1,9 +1,0 @@
--- `engine::lines::put_framed` meets its contract. Closed by laws of PenLaws.
-use Rattle.said.proofs.PenLaws.{line_bare}
-use mathlib.Core.List.{[], ◌∷◌}
-use borrow.Author.Rules.{rules}
-use native.Mathlib.Omega.{arith}
-use Rattle.engine.proofs.lines.put_framed.Goals as goal
-
-pub returns : goal.returns
-returns c = (line_bare (c.args.a ∷ []) c.args.frame.now c.args.end _ (search rules) (search rules) c.head_one-next.ensures c.put_bare.ensures, omega (arith, c.head_one-next.ensures.place))

@@ -1,0 +1,8 @@
+-- `finish` of the program meets its contract: no more octets are taken. Closed by computation, with no part at all.
+use Rattle.std.proofs.Common.{[], refl}
+use Rattle.text.specs.Hearing as Hearing
+use Rattle.explain.proofs.ExplainTeller.finish.Goals as goal
+
+pub returns : goal.returns
+unfolding Hearing.feeding
+returns g c = record { part = []; room = 0; reader = refl; taken = refl }

@@ -1,0 +1,47 @@
+// A unit that can be moved, whatever it is held as: each move changes it where it is lent.
+ghost use Rattle.std.specs.Prelude.{◌≡◌, ◌≤◌, ◌<◌, length, replicate};
+ghost use Rattle.book.specs.Ready.{Ready};
+ghost use Rattle.turn_laws.specs.Moves.{made, advanced, entered, cleared, keeping, appended, removed};
+ghost use Rattle.turn.specs.Acts.{NoneBehind};
+
+use book::Terms;
+use image::seen::Seen;
+
+pub trait Held: Seen {
+    // A new unit in Idle, in place of the one that was held: its limits in ticks, its name, and how many letters of it count.
+    fn make(&mut self, start: u16, end: u16, inactivity: u16, name: [u8; 32], letters: usize)
+        requires { letters ≤ 32 }
+        ensures { Self.unit self.new ≡ made start end inactivity name letters };
+
+    // The same dialogue, in another state or at another tick.
+    fn at_elapsed(&mut self, state: u8, elapsed: u16)
+        ensures { Self.unit self.new ≡ advanced (Self.unit self.old) state elapsed };
+
+    // A new state with its terms.
+    fn enter(&mut self, state: u8, terms: Terms)
+        requires { Ready (Self.unit self.old) }
+        ensures { Self.unit self.new ≡ entered (Self.unit self.old) state terms };
+
+    // Back in Idle: the setup stays, all else is 0.
+    fn to_idle(&mut self)
+        requires { Ready (Self.unit self.old) }
+        ensures { Self.unit self.new ≡ cleared (Self.unit self.old) };
+
+    // The frame kept in Start-multi.
+    fn keep(&mut self, frame: &[u8])
+        requires blank { (Self.unit self.old).kept ≡ replicate 554 0 }
+        requires short { length frame.now ≤ 554 }
+        ensures { Self.unit self.new ≡ keeping (Self.unit self.old) frame.now };
+
+    // One identifier more, at the end of the waiting list.
+    fn append(&mut self, id: u16)
+        requires { (Self.unit self.old).count < 8 }
+        ensures { Self.unit self.new ≡ appended (Self.unit self.old) id };
+
+    // The identifier at a place is answered: those behind it are closed up.
+    fn remove(&mut self, place: usize)
+        requires waits { place < (Self.unit self.old).count }
+        requires few { (Self.unit self.old).count ≤ 8 }
+        requires none_behind { NoneBehind (Self.unit self.old) }
+        ensures { Self.unit self.new ≡ removed (Self.unit self.old) place };
+}

@@ -1,0 +1,34 @@
+// What an event asks of a unit, and the move that needs no form of its own.
+ghost use Rattle.std.specs.Prelude.{◌≡◌, take};
+ghost use Rattle.book.specs.Ready.{Ready};
+ghost use Rattle.book.specs.Turns.{takes};
+ghost use Rattle.book.specs.Waiting.{place_of};
+ghost use Rattle.turn_laws.specs.Moves.{rested};
+
+use crate::held::Held;
+use image::seen::Seen;
+use state::turns;
+
+// A message was heard: in Associated the ticks begin anew.
+pub(crate) fn rest<H: Held>(u: &mut H)
+    ensures { H.unit u.new ≡ rested (H.unit u.old) }
+{
+    if u.state() == 4 {
+        u.at_elapsed(4, 0);
+    }
+}
+
+// Whether the state that a unit is in takes an event, by the event's column in the turn table.
+pub(crate) fn takes<H: Seen>(u: &H, column: usize) -> bool
+    ensures { result ≡ takes (H.unit u.now).state column }
+{
+    turns::taken(usize::from(u.state()), column)
+}
+
+// Where an identifier waits.
+pub(crate) fn find<H: Seen>(u: &H, id: u16) -> Option<usize>
+    requires { Ready (H.unit u.now) }
+    ensures { result ≡ place_of id 0 (take (H.unit u.now).count (H.unit u.now).waiting) }
+{
+    (0..u.count()).position(|i| id == u.id(i))
+}

@@ -1,9 +1,0 @@
--- `unit::requests::join` meets its contract. Closed by laws of RequestLaws, one for each way out.
-use Rattle.turn_laws.proofs.RequestLaws.{join_sure, join_plain}
-use Rattle.unit.proofs.requests.join.Goals as goal
-
-pub returns-then-c-eq1 : goal.returns-then-c-eq1
-returns-then-c-eq1 c = join_sure c.args.frame.now c.args.h c.args.u c.two_octets.result c.if-c-eq1.true c.two_octets.ensures c.needed_value-id.ensures c.append.ensures
-
-pub returns : goal.returns
-returns c = join_plain c.args.frame.now c.args.h c.args.u c.requires.1.0 c.if-c-eq1.false
