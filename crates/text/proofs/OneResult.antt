@@ -1,6 +1,8 @@
 -- Each public contract leaves one result, and one content of the lent buffer. Closed by the equalities that it gives.
 use mathlib.Core.Path.{sym, ◌∙◌}
 use Rattle.octets.specs.Contract.{Leaves}
+use Rattle.text.specs.Reading.{held_in}
+use Rattle.text.proofs.octets_of.Reads as octets-of
 use Rattle.text.proofs.line_feed.Reads as line-feed
 use Rattle.text.proofs.line_in.Reads as line-in
 use Rattle.text.proofs.put_digits.Reads as put-digits
@@ -26,3 +28,6 @@ one_print κs a x y e f p q = p.0 ∙ sym q.0
 
 pub one_print_buffer : Leaves print.Post (λ κs r e. e.0.now)
 one_print_buffer κs a x y e f p q = p.1 ∙ sym q.1
+
+pub one_octets_of : Leaves octets-of.Post (λ κs r e. held_in r)
+one_octets_of κs a x y e f p q = p ∙ sym q

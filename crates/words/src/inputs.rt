@@ -41,6 +41,7 @@ pub(crate) fn with_terms(page: &mut Page, word: &[u8], t: Terms, s: &[u8])
     frames::frame_words(page, parts::after(s, 4));
 }
 
+// The same, but for a frame or nothing. (What may follow is all that differs; a closure or a flag for it is no plainer than these four lines again.)
 pub(crate) fn with_start(page: &mut Page, word: &[u8], t: Terms, s: &[u8])
     requires { (length word.now ≤ 40) × Room page.old 420 }
     ensures { Writes page.old (with_start word.now t s.now) 420 page.new }
@@ -51,6 +52,7 @@ pub(crate) fn with_start(page: &mut Page, word: &[u8], t: Terms, s: &[u8])
     frames::frame_or_nothing(page, parts::after(s, 4));
 }
 
+// A result and a frame or nothing.
 pub(crate) fn with_reply(page: &mut Page, word: &[u8], yes: bool, s: &[u8])
     requires { (length word.now ≤ 40) × Room page.old 420 }
     ensures { Writes page.old (with_reply word.now yes s.now) 420 page.new }
@@ -61,6 +63,7 @@ pub(crate) fn with_reply(page: &mut Page, word: &[u8], yes: bool, s: &[u8])
     frames::frame_or_nothing(page, parts::after(s, 2));
 }
 
+// A frame.
 pub(crate) fn with_frame(page: &mut Page, word: &[u8], s: &[u8])
     requires { (length word.now ≤ 40) × Room page.old 420 }
     ensures { Writes page.old (with_frame word.now s.now) 420 page.new }
@@ -69,6 +72,7 @@ pub(crate) fn with_frame(page: &mut Page, word: &[u8], s: &[u8])
     frames::frame_words(page, parts::after(s, 1));
 }
 
+// A result.
 pub(crate) fn with_result(page: &mut Page, word: &[u8], yes: bool)
     requires { (length word.now ≤ 40) × Room page.old 420 }
     ensures { Writes page.old (with_result word.now yes) 420 page.new }

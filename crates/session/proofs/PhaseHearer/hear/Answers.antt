@@ -6,9 +6,6 @@ use Rattle.session.proofs.PhaseHearer.hear.Goals as goal
 pub returns-in_err-line : goal.returns-in_err-line
 returns-in_err-line c = hears_none _ c.args.unit.now c.args.input.now _ _ c.line_in.result _ c.line_in.ensures.0 c.in_err-line.was c.from_residual.ensures
 
-pub octets_of-event-requires : goal.octets_of-event-requires
-octets_of-event-requires c = let e = c.line_in.ensures in (line_read c.args.input.now _ _ _ _ e.0 c.in_ok-line.was e.1.0 e.1.1).few
-
 pub returns : goal.returns
 returns c =
     let e = c.line_in.ensures in
