@@ -1,14 +1,14 @@
 -- A tail of zeros by the number that octets are: shifted by n octets it is what the octets from the place n on are, and 0 just where they all are.
 use Rattle.std.proofs.Common.{ℕ, zero, suc, ◌+◌, ◌-◌, ◌*◌, ◌/◌, ◌^◌, ◌<◌, ◌≤◌, ◌≡◌, refl, ap, sym, ◌∙◌, Bool, true, false, List, [], ◌∷◌, ◌++◌, length, take, drop, get_or, arith, cond, min, length-drop}
-use Rattle.std.specs.Int.{w128, from_le_bytes, sum_through, byte_worth}
+use Rattle.std.specs.Int.{w64, from_le_bytes, sum_through, byte_worth}
 use Rattle.std.specs.Simd.{first_chunks}
-use Rattle.std.proofs.lemmas.List.{drop_min}
+use Rattle.std.proofs.lemmas.List.{drop_min, take-append-drop}
 use Rattle.std.proofs.lemmas.Nat.{pow-add}
 use Rattle.std.proofs.Math.Nat.{zero-div, div-one, div-div-eq-div-mul, pow-suc}
-use borrow.Author.Tests.{ne_eqb, ltb-false}
+use borrow.Author.Tests.{eq-eqb, ne_eqb, ltb-false}
 use lib.Dec.{eqb, ltb}
 use lib.ListN.{drop_of_length-le}
-use lib.Seq.{take-add, drop-cons, drop-drop, drop-nil, length-take-le, take_all, get_or-drop}
+use lib.Seq.{drop-cons, drop-drop, drop-nil, length-take-le, take_all, get_or-drop}
 use Rattle.octets.specs.Choice.{both}
 use Rattle.book.specs.Sound.{zeros}
 use Rattle.image.specs.Image.{two, waiting_in, unit_of}
@@ -51,9 +51,13 @@ word_is (suc k) (x ∷ s) h =
     sum_from (λ i. byte_worth i (get_or (x ∷ s) i 0)) k
     ∙ ap (λ n. x + n) (sum-ext (λ i. byte_worth (suc i) (get_or s i 0)) (λ i. byte_worth i (get_or s i 0)) (λ i. worth i (get_or s i 0)) k ∙ ap (λ n. 256 * n) (word_is k s (omega arith)))
 
--- a slice of sixteen octets as an array
-pub as_one : (s : List ℕ) {t : List (List ℕ)} → length s ≡ 16 → t ≡ first_chunks 16 (length s / 16) s → get_or t 0 [] ≡ s
-as_one s e q = ap (λ l. get_or l 0 []) (q ∙ ap (λ n. first_chunks 16 (n / 16) s) e) ∙ take_all 16 s (omega arith)
+-- the word at a place
+word_at : (k i : ℕ) (s : List ℕ) → i < k → get_or (first_chunks 8 k s) i [] ≡ take 8 (drop (8 * i) s)
+word_at zero i s h = absurd (omega arith)
+word_at (suc k) zero s h = refl
+word_at (suc k) (suc i) s h =
+    let e : 8 + 8 * i ≡ 8 * suc i = omega arith in
+    word_at k i (drop 8 s) (omega arith) ∙ ap (take 8) (drop-drop (8 * i) 8 s ∙ ap (λ m. drop m s) e)
 
 -- ---- the test
 
@@ -82,18 +86,18 @@ none_left : (s : List ℕ) → eqb (number s) 0 ≡ zeros s
 none_left [] = refl
 none_left (x ∷ s) = first x (number s) ∙ ap (both (eqb x 0)) (none_left s)
 
--- what is left of sixteen octets' number, shifted by n octets: 0 just where the octets from the place n on are
-pub tail_is : (s : List ℕ) (n : ℕ) {w r : ℕ} → length s ≡ 16 → ((j : ℕ) → get_or s j 0 < 256) → w ≡ from_le_bytes w128 s
-    → r ≡ cond (ltb (8 * n) 128) (w / 2 ^ (8 * n)) 0 → eqb r 0 ≡ zeros (drop n s)
-tail_is s n {w} {r} e h ew er = go (ltb (8 * n) 128) refl
+-- what is left of eight octets' number, shifted by n octets: 0 just where the octets from the place n on are
+tail_is : (s : List ℕ) (n : ℕ) {w r : ℕ} → length s ≡ 8 → ((j : ℕ) → get_or s j 0 < 256) → w ≡ from_le_bytes w64 s
+    → r ≡ cond (ltb (8 * n) 64) (w / 2 ^ (8 * n)) 0 → eqb r 0 ≡ zeros (drop n s)
+tail_is s n {w} {r} e h ew er = go (ltb (8 * n) 64) refl
   where
-    go : (b : Bool) → b ≡ ltb (8 * n) 128 → eqb r 0 ≡ zeros (drop n s)
+    go : (b : Bool) → b ≡ ltb (8 * n) 64 → eqb r 0 ≡ zeros (drop n s)
     go true p =
         let q : r ≡ w / 2 ^ (8 * n) = er ∙ rw (← p) in
-        ap (λ m. eqb m 0) (q ∙ ap (λ m. m / 2 ^ (8 * n)) (ew ∙ word_is 15 s (omega arith)) ∙ shifted n s h) ∙ none_left (drop n s)
+        ap (λ m. eqb m 0) (q ∙ ap (λ m. m / 2 ^ (8 * n)) (ew ∙ word_is 7 s (omega arith)) ∙ shifted n s h) ∙ none_left (drop n s)
     go false p =
         let q : r ≡ 0 = er ∙ rw (← p) in
-        let l = ltb-false (8 * n) 128 (sym p) in
+        let l = ltb-false (8 * n) 64 (sym p) in
         ap (λ m. eqb m 0) q ∙ ap zeros (sym (drop_of_length-le s {i = n} (omega arith)))
 
 -- ---- words joined
@@ -117,29 +121,54 @@ zeros-drop (suc n) (x ∷ s) t =
     let e : n - length s ≡ suc n - length (x ∷ s) = omega arith in
     zeros-drop n s t ∙ ap (λ k. both (zeros (drop n s)) (zeros (drop k t))) e
 
+-- the octets of a part are octets
+pub take_small : (n : ℕ) (s : List ℕ) → ((i : ℕ) → get_or s i 0 < 256) → (i : ℕ) → get_or (take n s) i 0 < 256
+take_small zero s h i = omega arith
+take_small (suc n) [] h i = omega arith
+take_small (suc n) (x ∷ s) h zero = h 0
+take_small (suc n) (x ∷ s) h (suc i) = take_small n s (λ j. h (suc j)) i
+
+pub part_small : (n i : ℕ) (s : List ℕ) → ((j : ℕ) → get_or s j 0 < 256) → (j : ℕ) → get_or (take n (drop i s)) j 0 < 256
+part_small n i s h = take_small n (drop i s) (λ j. rw (get_or-drop i s j 0) (h (i + j)))
+
+-- ---- along the words: what is left to test says what the whole says
+
+module _ (s : List ℕ) (n i : ℕ) (words : List (List ℕ)) {o : Bool} {w r : ℕ} (small : (j : ℕ) → get_or s j 0 < 256)
+    (are : words ≡ first_chunks 8 (length s / 8) s) (h : i < length s / 8) (number : w ≡ from_le_bytes w64 (get_or words i []))
+    (past : r ≡ cond (ltb (8 * n) 64) (w / 2 ^ (8 * n)) 0) (inv : zeros (drop n (drop (8 * i) s)) ≡ o) where
+  abbrev word : List ℕ
+  word = take 8 (drop (8 * i) s)
+
+  abbrev rest : List ℕ
+  rest = drop (8 * (i + 1)) s
+
+  wide : length word ≡ 8
+  wide = length-take-le 8 (drop (8 * i) s) (omega (arith, length-drop (8 * i) s))
+
+  split : drop (8 * i) s ≡ word ++ rest
+  split =
+      let e : 8 * i + 8 ≡ 8 * (i + 1) = omega arith in
+      sym (take-append-drop 8 (drop (8 * i) s)) ∙ ap (λ l. word ++ l) (drop-drop 8 (8 * i) s ∙ ap (λ m. drop m s) e)
+
+  tested : eqb r 0 ≡ zeros (drop n word)
+  tested = tail_is word n wide (part_small 8 (8 * i) s small) (number ∙ ap (from_le_bytes w64) (ap (λ l. get_or l i []) are ∙ word_at (length s / 8) i s h)) past
+
+  step : both (eqb r 0) (zeros (drop (n - 8) rest)) ≡ o
+  step =
+      ap (λ b. both b (zeros (drop (n - 8) rest))) tested ∙ ap (λ k. both (zeros (drop n word)) (zeros (drop (n - k) rest))) (sym wide)
+      ∙ sym (zeros-drop n word rest) ∙ sym (ap (λ l. zeros (drop n l)) split) ∙ inv
+
+  pub tail_stop : (r ≡ 0 → ⊥) → false ≡ o
+  tail_stop z = ap (λ b. both b (zeros (drop (n - 8) rest))) (sym (ne_eqb r 0 z)) ∙ step
+
+  pub tail_on : {m : ℕ} → r ≡ 0 → m ≡ n - 8 → zeros (drop m rest) ≡ o
+  tail_on {m} z e = ap (λ k. zeros (drop k rest)) e ∙ ap (λ b. both b (zeros (drop (n - 8) rest))) (sym (eq-eqb r 0 z)) ∙ step
+
+-- ---- the name
+
 pub name_wide : (s : List ℕ) → length s ≡ 618 → length (unit_of s).name ≡ 32
 unfolding unit_of
 name_wide s e = length-take-le 32 s (omega arith)
-
--- the name is two words
-name_is : (s : List ℕ) (n : ℕ) → length s ≡ 618
-    → zeros (drop n (unit_of s).name) ≡ both (zeros (drop n (take 16 s))) (zeros (drop (n - 16) (take 16 (drop 16 s))))
-unfolding unit_of
-name_is s n e =
-    ap (λ l. zeros (drop n l)) (take-add 16 16 s) ∙ zeros-drop n (take 16 s) (take 16 (drop 16 s))
-    ∙ ap (λ k. both (zeros (drop n (take 16 s))) (zeros (drop (n - k) (take 16 (drop 16 s))))) (length-take-le 16 s (omega arith))
-
-module _ (s : List ℕ) {n : ℕ} {a : Bool} (e : length s ≡ 618) (letters : n ≡ (unit_of s).letters) (first : a ≡ zeros (drop n (take 16 s))) where
-  pub name_on : {m : ℕ} {b : Bool} → a ≡ true → m ≡ n - 16 → b ≡ zeros (drop m (take 16 (drop 16 s))) → b ≡ zeros (drop (unit_of s).letters (unit_of s).name)
-  name_on {m} t em eb =
-      eb ∙ ap (λ k. zeros (drop k (take 16 (drop 16 s)))) em
-      ∙ ap (λ c. both c (zeros (drop (n - 16) (take 16 (drop 16 s))))) (sym (sym first ∙ t)) ∙ sym (name_is s n e)
-      ∙ ap (λ k. zeros (drop k (unit_of s).name)) letters
-
-  pub name_off : a ≡ false → a ≡ zeros (drop (unit_of s).letters (unit_of s).name)
-  name_off t =
-      t ∙ ap (λ c. both c (zeros (drop (n - 16) (take 16 (drop 16 s))))) (sym (sym first ∙ t)) ∙ sym (name_is s n e)
-      ∙ ap (λ k. zeros (drop k (unit_of s).name)) letters
 
 -- ---- the waiting list
 
@@ -180,7 +209,7 @@ waiting_pairs s e =
     (pair_step s 40 6 (omega arith) ∙ ap (λ l. two s 40 ∷ l) (pair_step s 42 4 (omega arith) ∙ ap (λ l. two s 42 ∷ l)
     (pair_step s 44 2 (omega arith) ∙ ap (λ l. two s 44 ∷ l) (pair_step s 46 0 (omega arith)))))))))
 
--- the waiting list is one word
+-- the octets of the waiting list
 pub list_is : (s : List ℕ) {n : ℕ} {r : Bool} → length s ≡ 618 → n ≡ (unit_of s).count → r ≡ zeros (drop (2 * n) (take 16 (drop 32 s)))
     → r ≡ zeros (drop (unit_of s).count (unit_of s).waiting)
 list_is s {n} e count q =
@@ -197,13 +226,6 @@ free_places s n m {k} e h q =
     let past : k ≡ min n (length s) = h ∙ ap (min n) (sym e) in
     q ∙ ap zeros (whole ∙ ap (λ i. drop i s) past ∙ drop_min n s)
 
--- the octets of a part are octets
-pub part_small : (n : ℕ) (s : List ℕ) → ((i : ℕ) → get_or s i 0 < 256) → (i : ℕ) → get_or (take n s) i 0 < 256
-part_small zero s h i = omega arith
-part_small (suc n) [] h i = omega arith
-part_small (suc n) (x ∷ s) h zero = h 0
-part_small (suc n) (x ∷ s) h (suc i) = part_small n s (λ j. h (suc j)) i
-
 pub kept_small : (s : List ℕ) → ((i : ℕ) → get_or s i 0 < 256) → (i : ℕ) → get_or (unit_of s).kept i 0 < 256
 unfolding unit_of
-kept_small s h = part_small 554 (drop 48 s) (λ j. rw (get_or-drop 48 s j 0) (h (48 + j)))
+kept_small s h = part_small 554 48 s h

@@ -1,5 +1,5 @@
 -- Zeros by the library's words for a chain of iterators.
-use Rattle.std.proofs.Common.{ℕ, ◌≡◌, ◌≤◌, ◌+◌, refl, ap, sym, Bool, true, false, List, [], ◌∷◌, ◌&&◌, ◌∙◌, arith, bit_or, bit_and}
+use Rattle.std.proofs.Common.{ℕ, ◌≡◌, ◌≤◌, ◌+◌, refl, ap, sym, Bool, true, false, List, [], ◌∷◌, ◌&&◌, ◌∙◌, arith, bit_or}
 use borrow.Author.Tests.{eq-eqb, ne_eqb, eqb-true, eqb-false}
 use lib.Dec.{eqb}
 use lib.Bits.{or_add_and, and_le_l, and_le_r}

@@ -1,5 +1,5 @@
 // What a unit is asked, and the two forms that it is held in: by value, or as its image.
-ghost use Rattle.std.specs.Prelude.{◌≡◌, ℕ, ◌<◌, ◌+◌, length, take, drop, get_or};
+ghost use Rattle.std.specs.Prelude.{◌≡◌, ℕ, ◌<◌, ◌+◌, ◌%◌, length, take, drop, get_or};
 ghost use Rattle.image.specs.Image.{two, unit_of};
 ghost use Rattle.book.specs.Sound.{zeros};
 ghost use Rattle.book.specs.declared.Unit.{Unit as Value};
@@ -59,9 +59,9 @@ pub trait Seen {
         ensures clear { result ≡ zeros (drop (unit self.now).count (unit self.now).waiting) }
         ensures places { length (unit self.now).waiting ≡ 8 };
 
-    // Whether what the kept frame leaves free of its 554 places is 0.
-    fn is_kept_clear(&self) -> bool
-        ensures clear { result ≡ zeros (drop (unit self.now).octets (unit self.now).kept) }
+    // Whether the 554 places for a kept frame are 0 from one of them on.
+    fn is_kept_clear(&self, from: usize) -> bool
+        ensures clear { result ≡ zeros (drop from (unit self.now).kept) }
         ensures places { length (unit self.now).kept ≡ 554 }
         ensures octets { (i : ℕ) → get_or (unit self.now).kept i 0 < 256 };
 }
@@ -138,8 +138,8 @@ impl Seen for Unit {
         clear_ids(&self.waiting[self.count.min(8)..])
     }
 
-    fn is_kept_clear(&self) -> bool {
-        clear(&self.kept[self.octets.min(554)..])
+    fn is_kept_clear(&self, from: usize) -> bool {
+        clear(&self.kept[from.min(554)..])
     }
 }
 
@@ -151,13 +151,19 @@ fn two(image: &[u8; 618], i: usize) -> u16
     u16::from_be_bytes([image[i], image[i + 1]])
 }
 
-// Whether sixteen octets are 0 from their place n on: the number that they are, the first one lowest, has then nothing above n octets.
-fn is_tail_clear(octets: &[u8], n: u16) -> bool
-    requires { length octets.now ≡ 16 }
+// Whether octets are 0 from the place n on, a word of eight at a time: the number that it is, its first octet lowest, shifted by what of n falls into it.
+fn is_tail_clear(octets: &[u8], mut n: u16) -> bool
+    requires { length octets.now % 8 ≡ 0 }
     ensures { result ≡ zeros (drop n octets.now) }
 {
-    let number = u128::from_le_bytes(octets.as_chunks().0[0]);
-    number.unbounded_shr(8 * u32::from(n)) == 0
+    let (words, _) = octets.as_chunks();
+    for word in words {
+        if u64::from_le_bytes(*word).unbounded_shr(8 * u32::from(n)) != 0 {
+            return false;
+        }
+        n = n.saturating_sub(8);
+    }
+    true
 }
 
 #[tactic(auto, unfolding(crate::specs::Image::unit_of))]
@@ -204,6 +210,7 @@ impl Seen for [u8; 618] {
         usize::from(two(self, 616))
     }
 
+    #[tactic(auto, unfolding(crate::specs::Image::unit_of), using(crate::proofs::ReaderLaws::id_at, crate::proofs::ReaderLaws::id_none))]
     fn id(&self, i: usize) -> u16 {
         if i < 8 { two(self, 32 + 2 * i) } else { 0 }
     }
@@ -219,17 +226,17 @@ impl Seen for [u8; 618] {
     }
 
     fn is_name_clear(&self) -> bool {
-        let letters = u16::from(self[614]);
-        is_tail_clear(&self[..16], letters)
-            && is_tail_clear(&self[16..32], letters.saturating_sub(16))
+        is_tail_clear(&self[..32], u16::from(self[614]))
     }
 
+    #[tactic(auto, unfolding(crate::specs::Image::unit_of), using(crate::proofs::ReaderLaws::eight_wait, crate::proofs::WordLaws::list_is))]
     fn is_list_clear(&self) -> bool {
         is_tail_clear(&self[32..48], 2 * u16::from(self[615]))
     }
 
-    fn is_kept_clear(&self) -> bool {
+    #[tactic(auto, unfolding(crate::specs::Image::unit_of), using(crate::proofs::WordLaws::free_places))]
+    fn is_kept_clear(&self, from: usize) -> bool {
         let kept = &self[48..602];
-        clear(&kept[self.octets().min(554)..])
+        clear(&kept[from.min(554)..])
     }
 }

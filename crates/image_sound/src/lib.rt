@@ -10,5 +10,6 @@ ghost use Rattle.image.specs.Image.{unit_of};
 pub fn sound(u: &[u8]) -> bool
     ensures { result ≡ Choice.both (eqb (length u.now) 618) (sound_of (unit_of u.now)) }
 {
-    u.as_array::<618>().is_some_and(|image| state::sound::sound(image))
+    u.as_array::<618>()
+        .is_some_and(|image| state::sound::sound(image))
 }

@@ -4,8 +4,6 @@ use mathlib.Core.Path.{sym, ◌∙◌}
 use Rattle.octets.specs.Contract.{Leaves}
 use Rattle.state.proofs.events.event_of.Reads as event-of
 use Rattle.state.proofs.events.frame_from.Reads as frame-from
-use Rattle.state.proofs.sound.both.Reads as both
-use Rattle.state.proofs.sound.either.Reads as either
 use Rattle.state.proofs.sound.within_limits.Reads as within-limits
 use Rattle.state.proofs.sound.limit_of.Reads as limit-of
 use Rattle.state.proofs.sound.sound.Reads as sound
@@ -19,12 +17,6 @@ one_event_of κs a x y e f p q = p ∙ sym q
 
 pub one_frame_from : Leaves frame-from.Post (λ κs r e. r)
 one_frame_from κs a x y e f p q = p ∙ sym q
-
-pub one_both : Leaves both.Post (λ κs r e. r)
-one_both κs a x y e f p q = p ∙ sym q
-
-pub one_either : Leaves either.Post (λ κs r e. r)
-one_either κs a x y e f p q = p ∙ sym q
 
 pub one_within_limits : Leaves within-limits.Post (λ κs r e. r)
 one_within_limits κs a x y e f p q = p ∙ sym q

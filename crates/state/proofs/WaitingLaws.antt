@@ -1,5 +1,5 @@
 -- The waiting list in its array: what std's words for a search and a copy say of it, and each step of a loop.
-use Rattle.std.specs.Prelude.{None, Some}
+use Rattle.std.specs.Prelude.{Some}
 use Rattle.std.specs.List.{copy_within, position, position_from}
 use Rattle.std.proofs.lemmas.Iterator.Adapters.{position_from-zero}
 use Rattle.std.proofs.lemmas.List.Edits.{paste_all}
@@ -9,10 +9,10 @@ use mathlib.Core.Bool.{Bool, true, false, cond}
 use mathlib.Core.List.{List, [], ◌∷◌, ◌++◌, append_assoc}
 use native.Mathlib.Numerals.{add-one}
 use native.Mathlib.Omega.{arith}
-use borrow.Author.Tests.{eq-eqb, ne_eqb, lt-ltb}
+use borrow.Author.Tests.{lt-ltb}
 use lib.Dec.{eqb}
 use lib.ListN.{length, take, drop, get_or, set, length-append, length-take, length-drop, drop_of_length-le}
-use lib.Seq.{drop-cons, set-append_seam, take-suc-set, drop-set-lt, set_split, get_or-take}
+use lib.Seq.{drop-cons, set-append_seam, take-suc-set, drop-set-lt, set_split}
 use Rattle.octets.specs.Choice.{pick}
 use Rattle.book.specs.Waiting.{place_of, closed}
 
@@ -51,28 +51,6 @@ closed_up w at e h =
     rw (p, q, append_assoc, add-one, lt-ltb at 8 h)
 
 -- ---- the same step by step, for a unit that is held as octets
-
-module _ (x i n : ℕ) (w : List ℕ) (e : place_of x i (drop i (take n w)) ≡ place_of x 0 (take n w)) where
-  pub find_past : n ≤ i → None ≡ place_of x 0 (take n w)
-  find_past h =
-      let z : place_of x i (drop i (take n w)) ≡ None = rw (drop_of_length-le (take n w) {i = i} (simp length-take (omega arith))) in
-      sym z ∙ e
-
-  module _ (h : i < n) (k : i < length w) where
-    next : place_of x i (drop i (take n w)) ≡ pick (eqb x (get_or w i 0)) (Some i) (place_of x (i + 1) (drop (i + 1) (take n w)))
-    next =
-        let l : i < length (take n w) = simp length-take (omega arith) in
-        rw (add-one, drop-cons (take n w) i 0 l, get_or-take n w i 0 h)
-
-    pub find_hit : x ≡ get_or w i 0 → Some i ≡ place_of x 0 (take n w)
-    find_hit q =
-        let z : place_of x i (drop i (take n w)) ≡ Some i = rw (next, eq-eqb x (get_or w i 0) q) in
-        sym z ∙ e
-
-    pub find_on : (x ≡ get_or w i 0 → ⊥) → place_of x (i + 1) (drop (i + 1) (take n w)) ≡ place_of x 0 (take n w)
-    find_on q =
-        let z : place_of x i (drop i (take n w)) ≡ place_of x (i + 1) (drop (i + 1) (take n w)) = rw (next, ne_eqb x (get_or w i 0) q) in
-        sym z ∙ e
 
 closed_in : (w : List ℕ) (i : ℕ) → i < 8 → closed w i ≡ take i w ++ (drop (suc i) w ++ (0 ∷ []))
 unfolding closed

@@ -1,26 +1,14 @@
 // Whether a unit is sound, whatever it is held as.
 ghost use Rattle.std.specs.Prelude.{◌≡◌, ℕ, ◌+◌, ◌<◌, ◌≤◌, length, take, get_or, slice_range};
 ghost use Rattle.std.specs.Bool.{OnTrue};
-ghost use Rattle.octets.specs.Choice as Choice;
 ghost use Rattle.book.specs.Sound.{differ, within_limits, setup_sound, ids_sound, limit_of, idle_sound, busy_sound, kept_reads, kept_sound, state_sound, sound_of};
 ghost use Rattle.book.specs.Book.{good, waits};
 ghost use Rattle.book.specs.View.{reading_in, frame_at};
-ghost use Rattle.book.specs.Ready.{Reads, Ready};
+ghost use Rattle.book.specs.Ready.{Ready};
 
-use frame::{Header, Whole};
+use book::Terms;
+use frame::Whole;
 use image::seen::Seen;
-
-pub fn both(a: bool, b: bool) -> bool
-    ensures { result ≡ Choice.both a b }
-{
-    if a { b } else { false }
-}
-
-pub fn either(a: bool, b: bool) -> bool
-    ensures { result ≡ Choice.either a b }
-{
-    if a { true } else { b }
-}
 
 // The limits of setup: 1..65,535 ticks each, a name of 1..32 octets.
 #[tactic(auto, unfolding(book::specs::Sound::within_limits))]
@@ -47,6 +35,7 @@ fn is_among<S: Seen>(u: &S, from: usize, n: usize, id: u16) -> bool
 }
 
 // No identifier stands twice among the first n.
+#[tactic(auto, using(crate::proofs::Scan::differ_stop, crate::proofs::Scan::differ_on))]
 fn distinct<S: Seen>(u: &S, n: usize) -> bool
     requires { n ≤ length (S.unit u.now).waiting }
     ensures { result ≡ differ (take n (S.unit u.now).waiting) }
@@ -84,8 +73,7 @@ pub fn limit_of<S: Seen>(u: &S) -> u16
 fn idle_sound<S: Seen>(u: &S) -> bool
     ensures { result ≡ idle_sound (S.unit u.now) }
 {
-    let terms = u.terms();
-    u.elapsed() == 0 && u.count() == 0 && terms.class == 0 && terms.priority == 0 && terms.rer == 0
+    u.elapsed() == 0 && u.count() == 0 && u.terms() == Terms::default()
 }
 
 #[tactic(auto, unfolding(book::specs::Sound::busy_sound))]
@@ -107,26 +95,27 @@ fn state_sound<S: Seen>(u: &S) -> bool
 
 // Whether a message that was read may be the kept one.
 #[tactic(auto, using(crate::proofs::KeptLaws::says_plain, crate::proofs::KeptLaws::says_sure, crate::proofs::KeptLaws::says_note))]
-fn kept_says<S: Seen>(u: &S, frame: &[u8], h: Header, n: usize) -> bool
-    requires { Reads frame.now h n }
-    ensures { result ≡ kept_reads (S.unit u.now) (good (frame_at frame.now h) n) }
+fn kept_says<S: Seen>(u: &S, frame: &[u8], whole: Whole) -> bool
+    ensures { result ≡ kept_reads (S.unit u.now) (good (frame_at frame.now whole.header) whole.extensions) }
 {
-    let alone = n == 0 && h.multi_shot;
-    match h.confirmation {
+    let header = whole.header;
+    let alone = whole.extensions == 0 && header.multi_shot;
+    match header.confirmation {
         0 => alone && u.count() == 0,
         1 => alone
             && u.count() == 1
-            && u.id(0) == frame::two_octets(frame, h.identifier).unwrap_or(0),
+            && u.id(0) == frame::two_octets(frame, header.identifier).unwrap_or(0),
         _ => false,
     }
 }
 
+#[tactic(auto, using(crate::proofs::KeptLaws::reads_bad, crate::proofs::KeptLaws::reads_good))]
 fn kept_reads<S: Seen>(u: &S, frame: &[u8]) -> bool
     ensures { result ≡ kept_reads (S.unit u.now) (reading_in frame.now) }
 {
     match frame::read(frame) {
+        Ok(whole) => kept_says(u, frame, whole),
         Err(_) => false,
-        Ok(Whole { header, extensions }) => kept_says(u, frame, header, extensions),
     }
 }
 
@@ -137,11 +126,10 @@ fn kept_sound<S: Seen>(u: &S) -> bool
     ensures places { OnTrue result (length (S.unit u.now).kept ≡ 554) }
     ensures octets { OnTrue result ((i : ℕ) → get_or (S.unit u.now).kept i 0 < 256) }
 {
-    u.is_kept_clear()
-        && match u.state() {
-            2 => u.octets() <= 554 && kept_reads(u, u.kept()),
-            _ => u.octets() == 0,
-        }
+    match u.state() {
+        2 => u.octets() <= 554 && u.is_kept_clear(u.octets()) && kept_reads(u, u.kept()),
+        _ => u.octets() == 0 && u.is_kept_clear(0),
+    }
 }
 
 // Whether a unit is sound. The cheapest tests come first; one that isn't sound is done with at the first that fails.

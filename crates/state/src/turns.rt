@@ -2,7 +2,8 @@
 ghost use Rattle.std.specs.Prelude.{◌≡◌};
 ghost use Rattle.book.specs.Turns.{takes};
 
-// A row for each state; the columns: a single-shot request, a multi-shot one, 03, 04, 10, 11, 12, 13, 14, 15, 16.
+// A row for each state; the columns: a single-shot request, a multi-shot one, 03, 04, 10, 11, 12, 13, 14, 15, 16. Numbers and not bools: that the table
+// is five rows of numbers is a rule of the project.
 const TURNS: [[u8; 11]; 5] = [
     [1, 1, 0, 1, 1, 0, 0, 0, 0, 0, 0],
     [0, 0, 0, 1, 0, 1, 0, 0, 0, 1, 1],

@@ -1,4 +1,4 @@
-// The waiting list: identifiers in a fixed array, in sending order, the unused places 0.
+// The waiting list: identifiers in a fixed array, in sending order, the unused places 0. No Vec, since the repository uses no heap.
 ghost use Rattle.std.specs.Prelude.{◌≡◌, take, set};
 ghost use Rattle.book.specs.Waiting.{place_of, closed};
 

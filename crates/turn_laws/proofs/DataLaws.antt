@@ -1,5 +1,6 @@
 -- 12 D-DATA indication: one law for each way out. Closed by cases on the state and on where the reference stands.
 use Rattle.std.specs.Prelude.{None, Option, Some, Result, Ok, Err}
+use Rattle.std.specs.Option.{option_map}
 use Prim.Native.Nat.{ℕ, zero, suc, ◌+◌, ◌<◌, ◌≤◌, ◌/◌, ◌%◌}
 use mathlib.Core.Path.{◌≡◌, refl, ap, sym, ◌∙◌}
 use mathlib.Core.Bool.{Bool, true, false}
@@ -67,25 +68,20 @@ ack_octets s f h a k = ap frame_octets (ack_fields a (message_at f h) s.name k.s
 
 -- ---- where a reference stands
 
-bump : Option ℕ → Option ℕ
-bump None = None
-bump (Some i) = Some (suc i)
+pick_next : (b : Bool) (f g : Option ℕ) → pick b (option_map suc f) (option_map suc g) ≡ option_map suc (pick b f g)
+pick_next true f g = refl
+pick_next false f g = refl
 
-pick_bump : (b : Bool) (f g : Option ℕ) → pick b (bump f) (bump g) ≡ bump (pick b f g)
-pick_bump true f g = refl
-pick_bump false f g = refl
-
-place_bump : (x k : ℕ) (w : List ℕ) → place_of x (suc k) w ≡ bump (place_of x k w)
-unfolding bump
-place_bump x k [] = refl
-place_bump x k (y ∷ w) = rw (place_bump x (suc k) w) (pick_bump (eqb x y) (Some k) (place_of x (suc k) w))
+place_next : (x k : ℕ) (w : List ℕ) → place_of x (suc k) w ≡ option_map suc (place_of x k w)
+place_next x k [] = refl
+place_next x k (y ∷ w) = rw (place_next x (suc k) w) (pick_next (eqb x y) (Some k) (place_of x (suc k) w))
 
 cut_out : List ℕ → Option ℕ → Option (List ℕ)
 cut_out w None = None
 cut_out w (Some i) = Some (take i w ++ drop (suc i) w)
 
-cut_step : (b : Bool) (y : ℕ) (w : List ℕ) (f : Option ℕ) → without_in b y w (cut_out w f) ≡ cut_out (y ∷ w) (pick b (Some 0) (bump f))
-unfolding cut_out without_in bump
+cut_step : (b : Bool) (y : ℕ) (w : List ℕ) (f : Option ℕ) → without_in b y w (cut_out w f) ≡ cut_out (y ∷ w) (pick b (Some 0) (option_map suc f))
+unfolding cut_out without_in
 cut_step true y w f = refl
 cut_step false y w None = refl
 cut_step false y w (Some i) = refl
@@ -93,7 +89,7 @@ cut_step false y w (Some i) = refl
 without_found : (x : ℕ) (w : List ℕ) → without x w ≡ cut_out w (place_of x 0 w)
 unfolding without cut_out
 without_found x [] = refl
-without_found x (y ∷ w) = rw (without_found x w, place_bump x 0 w) (cut_step (eqb x y) y w (place_of x 0 w))
+without_found x (y ∷ w) = rw (without_found x w, place_next x 0 w) (cut_step (eqb x y) y w (place_of x 0 w))
 
 pub without_none : (x : ℕ) (w : List ℕ) → place_of x 0 w ≡ None → without x w ≡ None
 unfolding cut_out

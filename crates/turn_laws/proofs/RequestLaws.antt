@@ -1,5 +1,5 @@
 -- 01 and 02: one law for each way out. Closed by cases on the state, and by the tests on the way.
-use Rattle.std.specs.Prelude.{None, Option, Some, Result, Ok, Err}
+use Rattle.std.specs.Prelude.{None, Option, Some, Result, Ok, Err, is_some}
 use Prim.Native.Nat.{ℕ, zero, suc, ◌<◌, ◌≤◌}
 use mathlib.Core.Path.{◌≡◌, refl, ap, sym, ◌∙◌}
 use mathlib.Core.Bool.{Bool, true, false, not}
@@ -196,17 +196,11 @@ module _ (s : Setup) (u : Value) where
 
 -- ---- who waits already
 
-found : Option ℕ → Bool
-found None = false
-found (Some i) = true
-
-found_pick : (b : Bool) (i : ℕ) (f : Option ℕ) → found (pick b (Some i) f) ≡ either b (found f)
-unfolding found
+found_pick : (b : Bool) (i : ℕ) (f : Option ℕ) → is_some (pick b (Some i) f) ≡ either b (is_some f)
 found_pick true i f = refl
 found_pick false i f = refl
 
-waits_found : (x k : ℕ) (w : List ℕ) → waits x w ≡ found (place_of x k w)
-unfolding found
+waits_found : (x k : ℕ) (w : List ℕ) → waits x w ≡ is_some (place_of x k w)
 waits_found x k [] = refl
 waits_found x k (y ∷ w) = ap (either (eqb x y)) (waits_found x (suc k) w) ∙ sym (found_pick (eqb x y) k (place_of x (suc k) w))
 
@@ -275,22 +269,20 @@ module _ {u : Value} (k : Ready u) {f : List ℕ} {h : Header} (w : Reads f h 0)
           unfolding ids_of message_at
           id_is = ap ids_of (msg_sure f h c) ∙ ap (λ y. y ∷ []) (sym (er ∙ ap needed ei))
 
-          bar_found : bar a M T ≡ pick (found g) (Some Waits) (pick (leb 8 (length (ids_in u))) (Some Full) None)
+          bar_found : bar a M T ≡ pick (is_some g) (Some Waits) (pick (leb 8 (length (ids_in u))) (Some Full) None)
           unfolding bar_confirmed full message_at
           bar_found =
               bar_same ∙ ap (λ m. bar_confirmed m (ids_in u)) (msg_sure f h c)
               ∙ ap (λ y. pick y (Some Waits) (pick (leb 8 (length (ids_in u))) (Some Full) None))
-              (ap (λ y. waits y (ids_in u)) (sym (er ∙ ap needed ei)) ∙ waits_found id 0 (ids_in u) ∙ ap found (sym eg))
+              (ap (λ y. waits y (ids_in u)) (sym (er ∙ ap needed ei)) ∙ waits_found id 0 (ids_in u) ∙ ap is_some (sym eg))
 
           pub ask_4 : {j : ℕ} → g ≡ Some j → on_multi (bar a (msg_at f h) (state_of u)) a (msg_at f h) (state_of u) ≡ refused Waits
-          unfolding found
-          ask_4 e = ap (λ o. on_multi o a M T) (bar_found ∙ ap (λ y. pick (found y) (Some Waits) (pick (leb 8 (length (ids_in u))) (Some Full) None)) e) ∙ refused_is S u T k.whole n Waits a M
+          ask_4 e = ap (λ o. on_multi o a M T) (bar_found ∙ ap (λ y. pick (is_some y) (Some Waits) (pick (leb 8 (length (ids_in u))) (Some Full) None)) e) ∙ refused_is S u T k.whole n Waits a M
 
           module _ (e : g ≡ None) where
             bar_full : bar a M T ≡ pick (leb 8 u.count) (Some Full) None
-            unfolding found
             bar_full =
-                bar_found ∙ ap (λ y. pick (found y) (Some Waits) (pick (leb 8 (length (ids_in u))) (Some Full) None)) e
+                bar_found ∙ ap (λ y. pick (is_some y) (Some Waits) (pick (leb 8 (length (ids_in u))) (Some Full) None)) e
                 ∙ ap (λ y. pick (leb 8 y) (Some Full) None) (length-take-le u.count u.waiting (omega arith))
 
             pub ask_5 : 8 ≤ u.count → on_multi (bar a (msg_at f h) (state_of u)) a (msg_at f h) (state_of u) ≡ refused Full
