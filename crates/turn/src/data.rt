@@ -21,7 +21,7 @@ fn on_plain<H: Held>(u: &mut H, m: &Message, out: &mut [u8; ROOM]) -> Verdict
 {
     let pen = lines::put_seen(out, m);
     let t = u.terms();
-    let done = lines::put_given(out, pen, 0x20, t, m);
+    let done = lines::put_message(out, pen, [0x20, t.class, t.priority, t.rer], m);
     moves::rest(u);
     lines::finished(done)
 }
@@ -35,11 +35,11 @@ fn on_sure<H: Held>(u: &mut H, m: &Message, out: &mut [u8; ROOM]) -> Verdict
 {
     let pen = lines::put_seen(out, m);
     let t = u.terms();
-    let given = lines::put_given(out, pen, 0x21, t, m);
+    let given = lines::put_message(out, pen, [0x21, t.class, t.priority, t.rer], m);
     let s = u.state();
     if s == 4 {
         let note = said::ack_of(m.frame, m.header);
-        let done = lines::put_sent(out, given, note, u.name());
+        let done = lines::put_noted(out, given, [0x32], note, u.name());
         moves::rest(u);
         return lines::finished(done);
     }

@@ -41,7 +41,7 @@ fn put_lost<H: Held>(out: &mut [u8; ROOM], pen: Pen, u: &H, reason: u8) -> Pen
     ensures { Laid out.old pen (doubts (H.unit u.now) ++ said (gone reason ∷ [])) out.new result }
 {
     let next = put_uncertain(out, pen, u);
-    lines::put_two(out, next, 0x24, reason)
+    lines::put_line(out, next, [0x24, reason])
 }
 
 // A fall with its 35.
@@ -49,7 +49,7 @@ pub(crate) fn fall<H: Held>(u: &mut H, out: &mut [u8; ROOM], reason: u8) -> Verd
     requires ready { Ready (H.unit u.old) }
     ensures { Acted (H.unit u.old) (Book.fall (setup_of (H.unit u.old)) (maintains (state_of (H.unit u.old))) (waiting_of (state_of (H.unit u.old))) reason) out.old result (H.unit u.new) out.new }
 {
-    let pen = lines::put_two(out, Pen { at: 0, lines: 0 }, 0x35, reason);
+    let pen = lines::put_line(out, Pen { at: 0, lines: 0 }, [0x35, reason]);
     let done = put_lost(out, pen, u, reason);
     u.to_idle();
     lines::finished(done)
@@ -76,7 +76,7 @@ pub(crate) fn on_end<H: Held>(u: &mut H, out: &mut [u8; ROOM]) -> Verdict
     if !moves::takes(u, 2) {
         return Err(Refusal::WrongState);
     }
-    let done = lines::put_one(out, Pen { at: 0, lines: 0 }, 0x33);
+    let done = lines::put_line(out, Pen { at: 0, lines: 0 }, [0x33]);
     u.at_elapsed(3, 0);
     lines::finished(done)
 }
@@ -97,7 +97,7 @@ pub(crate) fn on_tick<H: Held>(u: &mut H, out: &mut [u8; ROOM]) -> Verdict
         return lines::finished(Pen { at: 0, lines: 0 });
     }
     if s == 4 {
-        let done = lines::put_one(out, Pen { at: 0, lines: 0 }, 0x33);
+        let done = lines::put_line(out, Pen { at: 0, lines: 0 }, [0x33]);
         u.at_elapsed(3, 0);
         return lines::finished(done);
     }
@@ -112,9 +112,9 @@ pub(crate) fn on_end_asked<H: Held>(u: &mut H, out: &mut [u8; ROOM]) -> Verdict
     if !moves::takes(u, 7) {
         return Err(Refusal::WrongState);
     }
-    let pen = lines::put_two(out, Pen { at: 0, lines: 0 }, 0x34, 0);
+    let pen = lines::put_line(out, Pen { at: 0, lines: 0 }, [0x34, 0]);
     let next = put_uncertain(out, pen, u);
-    let done = lines::put_one(out, next, 0x23);
+    let done = lines::put_line(out, next, [0x23]);
     u.to_idle();
     lines::finished(done)
 }

@@ -31,7 +31,7 @@ fn on_idle_single<H: Held>(u: &mut H, r: &Request, out: &mut [u8; ROOM]) -> Verd
     ensures { Acted (H.unit u.old) (on_single r.now.terms (msg_at r.now.message.frame.now r.now.message.header) (state_of (H.unit u.old))) out.old result (H.unit u.new) out.new }
 {
     let t = said::settle(r.terms);
-    let done = lines::put_given(out, Pen { at: 0, lines: 0 }, 0x30, t, &r.message);
+    let done = lines::put_message(out, Pen { at: 0, lines: 0 }, [0x30, t.class, t.priority, t.rer], &r.message);
     u.enter(1, t);
     join(u, r);
     lines::finished(done)
@@ -44,7 +44,7 @@ fn on_idle_multi<H: Held>(u: &mut H, r: &Request, out: &mut [u8; ROOM]) -> Verdi
     ensures { Acted (H.unit u.old) (on_multi (bar r.now.terms (msg_at r.now.message.frame.now r.now.message.header) (state_of (H.unit u.old))) r.now.terms (msg_at r.now.message.frame.now r.now.message.header) (state_of (H.unit u.old))) out.old result (H.unit u.new) out.new }
 {
     let t = said::settle(r.terms);
-    let done = lines::put_terms(out, Pen { at: 0, lines: 0 }, 0x30, t);
+    let done = lines::put_line(out, Pen { at: 0, lines: 0 }, [0x30, t.class, t.priority, t.rer]);
     u.enter(2, t);
     u.keep(r.message.frame);
     join(u, r);
@@ -59,7 +59,7 @@ fn on_next_plain<H: Held>(u: &mut H, r: &Request, out: &mut [u8; ROOM]) -> Verdi
     requires same { same_terms (settled r.now.terms) (H.unit u.old).terms ≡ true }
     ensures { Acted (H.unit u.old) (on_multi (bar r.now.terms (msg_at r.now.message.frame.now r.now.message.header) (state_of (H.unit u.old))) r.now.terms (msg_at r.now.message.frame.now r.now.message.header) (state_of (H.unit u.old))) out.old result (H.unit u.new) out.new }
 {
-    let done = lines::put_framed(out, Pen { at: 0, lines: 0 }, 0x32, &r.message);
+    let done = lines::put_message(out, Pen { at: 0, lines: 0 }, [0x32], &r.message);
     u.at_elapsed(4, 0);
     lines::finished(done)
 }
@@ -79,7 +79,7 @@ fn on_next_sure<H: Held>(u: &mut H, r: &Request, out: &mut [u8; ROOM]) -> Verdic
     if 8 <= u.count() {
         return Err(Refusal::Full);
     }
-    let done = lines::put_framed(out, Pen { at: 0, lines: 0 }, 0x32, &r.message);
+    let done = lines::put_message(out, Pen { at: 0, lines: 0 }, [0x32], &r.message);
     u.at_elapsed(4, 0);
     u.append(id);
     lines::finished(done)

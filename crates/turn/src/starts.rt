@@ -21,7 +21,7 @@ fn cut_off<H: Held>(u: &H, m: &Message, out: &mut [u8; ROOM]) -> Verdict
     ensures { Acted (H.unit u.now) (done idle (with_seen m.now.extensions (send (cut 10) ∷ []))) out.old result (H.unit u.now) out.new }
 {
     let pen = lines::put_seen(out, m);
-    let done = lines::put_two(out, pen, 0x35, 10);
+    let done = lines::put_line(out, pen, [0x35, 10]);
     lines::finished(done)
 }
 
@@ -35,13 +35,13 @@ fn on_single_shot<H: Held>(u: &H, a: Terms, m: &Message, out: &mut [u8; ROOM]) -
 {
     let pen = lines::put_seen(out, m);
     if m.header.confirmation == 0 {
-        let given = lines::put_given(out, pen, 0x20, a, m);
-        let done = lines::put_two(out, given, 0x31, 1);
+        let given = lines::put_message(out, pen, [0x20, a.class, a.priority, a.rer], m);
+        let done = lines::put_line(out, given, [0x31, 1]);
         return lines::finished(done);
     }
-    let given = lines::put_given(out, pen, 0x21, a, m);
+    let given = lines::put_message(out, pen, [0x21, a.class, a.priority, a.rer], m);
     let note = said::ack_of(m.frame, m.header);
-    let done = lines::put_noted(out, given, 0x31, 1, note, u.name());
+    let done = lines::put_noted(out, given, [0x31, 1], note, u.name());
     lines::finished(done)
 }
 
@@ -66,7 +66,7 @@ fn on_opened<H: Held>(u: &mut H, a: Terms, out: &mut [u8; ROOM]) -> Verdict
     requires in_state { (H.unit u.old).state ≡ 0 }
     ensures { Acted (H.unit u.old) (first_contact (setup_of (H.unit u.old)) a None) out.old result (H.unit u.new) out.new }
 {
-    let done = lines::put_two(out, Pen { at: 0, lines: 0 }, 0x31, 0);
+    let done = lines::put_line(out, Pen { at: 0, lines: 0 }, [0x31, 0]);
     u.enter(4, a);
     lines::finished(done)
 }
@@ -77,7 +77,7 @@ fn on_faulty_start<H: Held>(u: &H, reason: u8, out: &mut [u8; ROOM]) -> Verdict
     requires in_state { (H.unit u.now).state ≡ 0 }
     ensures { Acted (H.unit u.now) (done idle (send (cut reason) ∷ [])) out.old result (H.unit u.now) out.new }
 {
-    let done = lines::put_two(out, Pen { at: 0, lines: 0 }, 0x35, reason);
+    let done = lines::put_line(out, Pen { at: 0, lines: 0 }, [0x35, reason]);
     lines::finished(done)
 }
 
@@ -172,7 +172,7 @@ fn on_turned_down<H: Held>(u: &mut H, out: &mut [u8; ROOM]) -> Verdict
     };
     let n = u.count();
     let pen = lines::put_answers(out, Pen { at: 0, lines: 0 }, say, u, n);
-    let done = lines::put_two(out, pen, 0x24, 3);
+    let done = lines::put_line(out, pen, [0x24, 3]);
     u.to_idle();
     lines::finished(done)
 }
