@@ -7,6 +7,7 @@ ghost use Rattle.book.specs.Turns.{takes};
 ghost use Rattle.book.specs.Ready.{Ready};
 ghost use Rattle.turn.specs.Acts.{Acted};
 
+use crate::column::Column;
 use crate::held::Held;
 use crate::message::Message;
 use crate::{ROOM, ends, lines, moves};
@@ -82,7 +83,7 @@ pub(crate) fn on_data<H: Held>(u: &mut H, frame: &[u8], out: &mut [u8; ROOM]) ->
     requires ready { Ready (H.unit u.old) }
     ensures { Acted (H.unit u.old) (on_dat (setup_of (H.unit u.old)) (reading_in frame.now) (state_of (H.unit u.old))) out.old result (H.unit u.new) out.new }
 {
-    if !moves::takes(u, 6) {
+    if !moves::takes(u, Column::Data) {
         return Err(Refusal::WrongState);
     }
     match Message::read(frame) {

@@ -13,6 +13,9 @@ use book::{Done, Verdict};
 use image::seen::Seen;
 use said::{Note, Pen, Say};
 
+// Where an event's first line goes.
+pub(crate) const START: Pen = Pen { at: 0, lines: 0 };
+
 // An accepted event: what was laid.
 pub(crate) fn finished(pen: Pen) -> Verdict
     ensures { result ≡ Ok (record { lines = pen.lines; octets = pen.at }) }
@@ -65,12 +68,11 @@ pub(crate) fn put_seen(out: &mut [u8], m: &Message) -> Pen
     ensures lines { result.lines ≤ 1 }
 {
     let n = m.extensions;
-    let start = Pen { at: 0, lines: 0 };
     if n == 0 {
-        return start;
+        return START;
     }
     let [high, low] = (n as u16).to_be_bytes();
-    put_line(out, start, [0x25, high, low])
+    put_line(out, START, [0x25, high, low])
 }
 
 // A line of a head and a message, without its extension fields.

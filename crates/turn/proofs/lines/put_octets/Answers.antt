@@ -1,7 +1,6 @@
 -- `turn::lines::put_octets` meets its contract. Closed by `part_set` of PlaceLaws.
 use Rattle.turn.proofs.PlaceLaws.{part_set}
 use borrow.Author.Rules.{rules}
-use native.Mathlib.Omega.{arith}
 use Rattle.turn.proofs.lines.put_octets.Goals as goal
 
 pub returns : goal.returns

@@ -1,8 +1,5 @@
 -- `turn::lines::put_seen` meets its contract. Closed by laws of DataLaws.
 use Rattle.turn_laws.proofs.DataLaws.{seen_none, seen_some}
-use mathlib.Core.List.{[], ◌∷◌}
-use mathlib.Core.Path.{refl}
-use lib.ListN.{get_or}
 use borrow.Author.Rules.{rules}
 use Rattle.turn.proofs.lines.put_seen.Goals as goal
 
