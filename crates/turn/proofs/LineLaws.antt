@@ -18,6 +18,6 @@ module _ (n : Note) (name : List ℕ) (shot : ℕ) (h : 2 ≤ n.confirmation) (l
       → Put b1 j (n.reference / 256 ∷ n.reference % 256 ∷ length name ∷ name) a r → Put b i (note_octets n name) a r
   plain_put z p q = put_as (rw f (sym (note_is n name h l ∙ rw z))) (then p q)
 
-  pub typed_put : {t : ℕ} {b2 : List ℕ} {k : ℕ} → n.message_type ≡ Some t → Put b i ((88 + shot) ∷ n.confirmation ∷ []) b1 j → Put b1 j (t ∷ []) b2 k
-      → Put b2 k (n.reference / 256 ∷ n.reference % 256 ∷ length name ∷ name) a r → Put b i (note_octets n name) a r
-  typed_put z p o q = put_as (rw f (sym (note_is n name h l ∙ rw z))) (then (then p o) q)
+  pub typed_put : {t : ℕ} → n.message_type ≡ Some t → Put b i ((88 + shot) ∷ n.confirmation ∷ t ∷ []) b1 j
+      → Put b1 j (n.reference / 256 ∷ n.reference % 256 ∷ length name ∷ name) a r → Put b i (note_octets n name) a r
+  typed_put z p q = put_as (rw f (sym (note_is n name h l ∙ rw z))) (then p q)

@@ -1,5 +1,5 @@
 -- What a heard message and an answered identifier leave of the waiting list, and where an identifier stands in it.
-use Rattle.std.specs.Prelude.{Option, Some, None, is_some, unwrap_or}
+use Rattle.std.specs.Prelude.{Option, Some, None, is_some}
 use Rattle.std.specs.List.{position, position_from, range_with_len}
 use Rattle.std.proofs.lemmas.Iterator.Adapters.{position_from-zero}
 use native.Mathlib.Numerals.{add-one}
@@ -8,7 +8,6 @@ use mir.Val.{bool_byte}
 use lib.Dec.{eqb}
 use Rattle.octets.specs.Choice.{pick}
 use Rattle.frame.specs.Encoding.{weight}
-use Rattle.book.specs.View.{needed}
 use Rattle.book.specs.Waiting.{place_of}
 use Rattle.turn_laws.proofs.Moved.{not_taken}
 use Prim.Native.Nat.{ℕ, zero, suc, ◌+◌, ◌-◌, ◌<◌, ◌≤◌}

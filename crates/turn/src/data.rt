@@ -7,6 +7,7 @@ ghost use Rattle.book.specs.Turns.{takes};
 ghost use Rattle.book.specs.Ready.{Ready};
 ghost use Rattle.turn.specs.Acts.{Acted};
 
+use crate::column::Column;
 use crate::held::Held;
 use crate::message::Message;
 use crate::{ROOM, ends, lines, moves};
@@ -21,7 +22,7 @@ fn on_plain<H: Held>(u: &mut H, m: &Message, out: &mut [u8; ROOM]) -> Verdict
 {
     let pen = lines::put_seen(out, m);
     let t = u.terms();
-    let done = lines::put_given(out, pen, 0x20, t, m);
+    let done = lines::put_message(out, pen, [0x20, t.class, t.priority, t.rer], m);
     moves::rest(u);
     lines::finished(done)
 }
@@ -35,11 +36,11 @@ fn on_sure<H: Held>(u: &mut H, m: &Message, out: &mut [u8; ROOM]) -> Verdict
 {
     let pen = lines::put_seen(out, m);
     let t = u.terms();
-    let given = lines::put_given(out, pen, 0x21, t, m);
+    let given = lines::put_message(out, pen, [0x21, t.class, t.priority, t.rer], m);
     let s = u.state();
     if s == 4 {
         let note = said::ack_of(m.frame, m.header);
-        let done = lines::put_sent(out, given, note, u.name());
+        let done = lines::put_noted(out, given, [0x32], note, u.name());
         moves::rest(u);
         return lines::finished(done);
     }
@@ -82,7 +83,7 @@ pub(crate) fn on_data<H: Held>(u: &mut H, frame: &[u8], out: &mut [u8; ROOM]) ->
     requires ready { Ready (H.unit u.old) }
     ensures { Acted (H.unit u.old) (on_dat (setup_of (H.unit u.old)) (reading_in frame.now) (state_of (H.unit u.old))) out.old result (H.unit u.new) out.new }
 {
-    if !moves::takes(u, 6) {
+    if !moves::takes(u, Column::Data) {
         return Err(Refusal::WrongState);
     }
     match Message::read(frame) {

@@ -8,6 +8,7 @@ ghost use Rattle.said.specs.Pens.{Laid};
 ghost use Rattle.said.specs.Saying.{said, maintains, doubts};
 ghost use Rattle.turn.specs.Acts.{Acted};
 
+use crate::column::Column;
 use crate::held::Held;
 use crate::{ROOM, lines, moves};
 use book::{Refusal, Verdict};
@@ -41,7 +42,7 @@ fn put_lost<H: Held>(out: &mut [u8; ROOM], pen: Pen, u: &H, reason: u8) -> Pen
     ensures { Laid out.old pen (doubts (H.unit u.now) ++ said (gone reason ∷ [])) out.new result }
 {
     let next = put_uncertain(out, pen, u);
-    lines::put_two(out, next, 0x24, reason)
+    lines::put_line(out, next, [0x24, reason])
 }
 
 // A fall with its 35.
@@ -49,7 +50,7 @@ pub(crate) fn fall<H: Held>(u: &mut H, out: &mut [u8; ROOM], reason: u8) -> Verd
     requires ready { Ready (H.unit u.old) }
     ensures { Acted (H.unit u.old) (Book.fall (setup_of (H.unit u.old)) (maintains (state_of (H.unit u.old))) (waiting_of (state_of (H.unit u.old))) reason) out.old result (H.unit u.new) out.new }
 {
-    let pen = lines::put_two(out, Pen { at: 0, lines: 0 }, 0x35, reason);
+    let pen = lines::put_line(out, lines::START, [0x35, reason]);
     let done = put_lost(out, pen, u, reason);
     u.to_idle();
     lines::finished(done)
@@ -60,10 +61,10 @@ pub(crate) fn on_abort<H: Held>(u: &mut H, out: &mut [u8; ROOM], reason: u8) -> 
     requires ready { Ready (H.unit u.old) }
     ensures { Acted (H.unit u.old) (on_abort (setup_of (H.unit u.old)) reason (state_of (H.unit u.old))) out.old result (H.unit u.new) out.new }
 {
-    if !moves::takes(u, 9) {
+    if !moves::takes(u, Column::Aborted) {
         return Err(Refusal::WrongState);
     }
-    let done = put_lost(out, Pen { at: 0, lines: 0 }, u, reason);
+    let done = put_lost(out, lines::START, u, reason);
     u.to_idle();
     lines::finished(done)
 }
@@ -73,10 +74,10 @@ pub(crate) fn on_end<H: Held>(u: &mut H, out: &mut [u8; ROOM]) -> Verdict
     requires ready { Ready (H.unit u.old) }
     ensures { Acted (H.unit u.old) (on_end (state_of (H.unit u.old))) out.old result (H.unit u.new) out.new }
 {
-    if !moves::takes(u, 2) {
+    if !moves::takes(u, Column::End) {
         return Err(Refusal::WrongState);
     }
-    let done = lines::put_one(out, Pen { at: 0, lines: 0 }, 0x33);
+    let done = lines::put_line(out, lines::START, [0x33]);
     u.at_elapsed(3, 0);
     lines::finished(done)
 }
@@ -88,16 +89,16 @@ pub(crate) fn on_tick<H: Held>(u: &mut H, out: &mut [u8; ROOM]) -> Verdict
 {
     let s = u.state();
     if s == 0 {
-        return lines::finished(Pen { at: 0, lines: 0 });
+        return lines::finished(lines::START);
     }
     let limit = sound::limit_of(u);
     let e = u.elapsed() + 1;
     if e < limit {
         u.at_elapsed(s, e);
-        return lines::finished(Pen { at: 0, lines: 0 });
+        return lines::finished(lines::START);
     }
     if s == 4 {
-        let done = lines::put_one(out, Pen { at: 0, lines: 0 }, 0x33);
+        let done = lines::put_line(out, lines::START, [0x33]);
         u.at_elapsed(3, 0);
         return lines::finished(done);
     }
@@ -109,12 +110,12 @@ pub(crate) fn on_end_asked<H: Held>(u: &mut H, out: &mut [u8; ROOM]) -> Verdict
     requires ready { Ready (H.unit u.old) }
     ensures { Acted (H.unit u.old) (on_fin (setup_of (H.unit u.old)) (state_of (H.unit u.old))) out.old result (H.unit u.new) out.new }
 {
-    if !moves::takes(u, 7) {
+    if !moves::takes(u, Column::EndAsked) {
         return Err(Refusal::WrongState);
     }
-    let pen = lines::put_two(out, Pen { at: 0, lines: 0 }, 0x34, 0);
+    let pen = lines::put_line(out, lines::START, [0x34, 0]);
     let next = put_uncertain(out, pen, u);
-    let done = lines::put_one(out, next, 0x23);
+    let done = lines::put_line(out, next, [0x23]);
     u.to_idle();
     lines::finished(done)
 }
@@ -124,14 +125,14 @@ pub(crate) fn on_end_answered<H: Held>(u: &mut H, out: &mut [u8; ROOM], accepted
     requires ready { Ready (H.unit u.old) }
     ensures { Acted (H.unit u.old) (on_fin_ok (setup_of (H.unit u.old)) accepted (state_of (H.unit u.old))) out.old result (H.unit u.new) out.new }
 {
-    if !moves::takes(u, 8) {
+    if !moves::takes(u, Column::EndAnswered) {
         return Err(Refusal::WrongState);
     }
     if accepted {
-        let done = put_uncertain(out, Pen { at: 0, lines: 0 }, u);
+        let done = put_uncertain(out, lines::START, u);
         u.to_idle();
         return lines::finished(done);
     }
     u.at_elapsed(4, 0);
-    lines::finished(Pen { at: 0, lines: 0 })
+    lines::finished(lines::START)
 }

@@ -12,6 +12,7 @@ use book::{Done, Event, Refusal, Verdict};
 use held::Held;
 use state::{events, sound};
 
+mod column;
 mod data;
 mod ends;
 pub mod held;

@@ -1,19 +1,20 @@
-// Output lines, laid into the lent buffer one after the other. The octets of a head are stored one by one, which the compiler joins into one store; the
-// unit's name, its waiting list and its kept frame are read where they stand, in the image.
+// Output lines, laid into the lent buffer one after the other. The unit's name, its waiting list and its kept frame are read where they stand.
 ghost use Rattle.std.specs.Prelude.{◌≡◌, [], ◌∷◌, ◌++◌, map, ◌+◌, ◌*◌, ◌≤◌, ◌<◌, ◌/◌, ◌%◌, eqb, length, take, Ok};
 ghost use Rattle.octets.specs.Choice.{pick};
 ghost use Rattle.octets.specs.Put.{Put};
 ghost use Rattle.frame.specs.Stripping.{bare_to};
-ghost use Rattle.book.specs.Lines.{terms_octets};
 ghost use Rattle.book.specs.Ready.{Ready};
 ghost use Rattle.said.specs.Pens.{Laid};
 ghost use Rattle.said.specs.Notes.{note_octets, answer_line};
 ghost use Rattle.said.specs.Saying.{seen_lines};
 
 use crate::message::Message;
-use book::{Done, Terms, Verdict};
+use book::{Done, Verdict};
 use image::seen::Seen;
 use said::{Note, Pen, Say};
+
+// Where an event's first line goes.
+pub(crate) const START: Pen = Pen { at: 0, lines: 0 };
 
 // An accepted event: what was laid.
 pub(crate) fn finished(pen: Pen) -> Verdict
@@ -25,97 +26,34 @@ pub(crate) fn finished(pen: Pen) -> Verdict
     })
 }
 
-fn one(out: &mut [u8], at: usize, a: u8) -> usize
-    requires { at + 1 ≤ length out.old }
-    ensures { Put out.old at (a ∷ []) out.new result }
+fn put_octets<const N: usize>(out: &mut [u8], at: usize, octets: [u8; N]) -> usize
+    requires { at + length octets ≤ length out.old }
+    ensures { Put out.old at octets.entry out.new result }
 {
-    out[at] = a;
-    at + 1
+    out[at..at + N].copy_from_slice(&octets);
+    at + N
 }
 
-fn pair(out: &mut [u8], at: usize, a: u8, b: u8) -> usize
-    requires { at + 2 ≤ length out.old }
-    ensures { Put out.old at (a ∷ b ∷ []) out.new result }
+// The length of a line, of its head and n octets more; and its head.
+fn put_head<const N: usize>(out: &mut [u8], at: usize, head: [u8; N], n: usize) -> usize
+    requires small { length head + n < 65536 }
+    requires room { at + 2 + length head ≤ length out.old }
+    ensures { Put out.old at ((length head.entry + n) / 256 ∷ (length head.entry + n) % 256 ∷ head.entry) out.new result }
 {
-    out[at] = a;
-    out[at + 1] = b;
-    at + 2
+    let length = (N + n) as u16;
+    let next = put_octets(out, at, length.to_be_bytes());
+    put_octets(out, next, head)
 }
 
-// The length of a line.
-fn put_length(out: &mut [u8], at: usize, m: usize) -> usize
-    requires small { m < 65536 }
-    requires room { at + 2 ≤ length out.old }
-    ensures { Put out.old at (m / 256 ∷ m % 256 ∷ []) out.new result }
-{
-    pair(out, at, (m / 256 % 256) as u8, (m % 256) as u8)
-}
-
-// The length of a line, of its head and n octets more, and its head: one octet, two, or a kind and terms.
-fn head_one(out: &mut [u8], at: usize, a: u8, n: usize) -> usize
-    requires small { n < 60000 }
-    requires room { at + 3 ≤ length out.old }
-    ensures { Put out.old at ((1 + n) / 256 ∷ (1 + n) % 256 ∷ a ∷ []) out.new result }
-{
-    let next = put_length(out, at, 1 + n);
-    one(out, next, a)
-}
-
-fn head_two(out: &mut [u8], at: usize, a: u8, b: u8, n: usize) -> usize
-    requires small { n < 60000 }
-    requires room { at + 4 ≤ length out.old }
-    ensures { Put out.old at ((2 + n) / 256 ∷ (2 + n) % 256 ∷ a ∷ b ∷ []) out.new result }
-{
-    let next = put_length(out, at, 2 + n);
-    pair(out, next, a, b)
-}
-
-fn head_terms(out: &mut [u8], at: usize, kind: u8, t: Terms, n: usize) -> usize
-    requires small { n < 60000 }
-    requires room { at + 6 ≤ length out.old }
-    ensures { Put out.old at ((4 + n) / 256 ∷ (4 + n) % 256 ∷ kind ∷ terms_octets t) out.new result }
-{
-    let head = put_length(out, at, 4 + n);
-    let next = pair(out, head, kind, t.class);
-    pair(out, next, t.priority, t.rer)
-}
-
-// A line of one octet.
-pub(crate) fn put_one(out: &mut [u8], pen: Pen, a: u8) -> Pen
+// A line that is a head alone.
+pub(crate) fn put_line<const N: usize>(out: &mut [u8], pen: Pen, head: [u8; N]) -> Pen
+    requires small { length head < 65536 }
     requires lines { pen.lines ≤ 100 }
-    requires room { pen.at + 3 ≤ length out.old }
-    ensures laid { Laid out.old pen ((a ∷ []) ∷ []) out.new result }
-    ensures place { result.at ≡ pen.at + 3 }
+    requires room { pen.at + 2 + length head ≤ length out.old }
+    ensures laid { Laid out.old pen (head.entry ∷ []) out.new result }
+    ensures place { result.at ≡ pen.at + 2 + length head.entry }
 {
-    let next = head_one(out, pen.at, a, 0);
-    Pen {
-        at: next,
-        lines: pen.lines + 1,
-    }
-}
-
-// A line of two octets.
-pub(crate) fn put_two(out: &mut [u8], pen: Pen, a: u8, b: u8) -> Pen
-    requires lines { pen.lines ≤ 100 }
-    requires room { pen.at + 4 ≤ length out.old }
-    ensures laid { Laid out.old pen ((a ∷ b ∷ []) ∷ []) out.new result }
-    ensures place { result.at ≡ pen.at + 4 }
-{
-    let next = head_two(out, pen.at, a, b, 0);
-    Pen {
-        at: next,
-        lines: pen.lines + 1,
-    }
-}
-
-// A line of a kind and terms.
-pub(crate) fn put_terms(out: &mut [u8], pen: Pen, kind: u8, t: Terms) -> Pen
-    requires lines { pen.lines ≤ 100 }
-    requires room { pen.at + 6 ≤ length out.old }
-    ensures laid { Laid out.old pen ((kind ∷ terms_octets t) ∷ []) out.new result }
-    ensures place { result.at ≡ pen.at + 6 }
-{
-    let next = head_terms(out, pen.at, kind, t, 0);
+    let next = put_head(out, pen.at, head, 0);
     Pen {
         at: next,
         lines: pen.lines + 1,
@@ -131,38 +69,27 @@ pub(crate) fn put_seen(out: &mut [u8], m: &Message) -> Pen
 {
     let n = m.extensions;
     if n == 0 {
-        return Pen { at: 0, lines: 0 };
+        return START;
     }
-    let next = head_one(out, 0, 0x25, 2);
-    let end = pair(out, next, (n / 256 % 256) as u8, (n % 256) as u8);
-    Pen { at: end, lines: 1 }
+    let [high, low] = (n as u16).to_be_bytes();
+    put_line(out, START, [0x25, high, low])
 }
 
-// A line of one octet and a message, without its extension fields.
-pub(crate) fn put_framed(out: &mut [u8], pen: Pen, a: u8, m: &Message) -> Pen
+// A line of a head and a message, without its extension fields.
+pub(crate) fn put_message<const N: usize>(
+    out: &mut [u8],
+    pen: Pen,
+    head: [u8; N],
+    m: &Message,
+) -> Pen
+    requires small { length head < 60000 }
     requires lines { pen.lines ≤ 100 }
-    requires room { pen.at + 6 + m.now.header.end ≤ length out.old }
-    ensures laid { Laid out.old pen ((a ∷ bare_to m.now.frame.now m.now.header.end) ∷ []) out.new result }
-    ensures place { result.at ≡ pen.at + 3 + m.now.header.end }
+    requires room { pen.at + 2 + length head + m.now.header.end ≤ length out.old }
+    ensures laid { Laid out.old pen ((head.entry ++ bare_to m.now.frame.now m.now.header.end) ∷ []) out.new result }
+    ensures place { result.at ≡ pen.at + 2 + length head.entry + m.now.header.end }
 {
     let end = m.header.end;
-    let next = head_one(out, pen.at, a, end);
-    frame::put_bare(m.frame, end, out, next);
-    Pen {
-        at: next + end,
-        lines: pen.lines + 1,
-    }
-}
-
-// Line 20 or 21, or 30 with a message.
-pub(crate) fn put_given(out: &mut [u8], pen: Pen, kind: u8, t: Terms, m: &Message) -> Pen
-    requires lines { pen.lines ≤ 100 }
-    requires room { pen.at + 6 + m.now.header.end ≤ length out.old }
-    ensures laid { Laid out.old pen ((kind ∷ (terms_octets t ++ bare_to m.now.frame.now m.now.header.end)) ∷ []) out.new result }
-    ensures place { result.at ≡ pen.at + 6 + m.now.header.end }
-{
-    let end = m.header.end;
-    let next = head_terms(out, pen.at, kind, t, end);
+    let next = put_head(out, pen.at, head, end);
     frame::put_bare(m.frame, end, out, next);
     Pen {
         at: next + end,
@@ -176,14 +103,8 @@ pub(crate) fn put_confirmed(out: &mut [u8], pen: Pen, m: &Message) -> Pen
     requires room { pen.at + 6 + m.now.header.end ≤ length out.old }
     ensures { Laid out.old pen ((34 ∷ pick (eqb m.now.header.confirmation 2) 0 1 ∷ bare_to m.now.frame.now m.now.header.end) ∷ []) out.new result }
 {
-    let end = m.header.end;
     let result = said::result_of(m.header.confirmation);
-    let next = head_two(out, pen.at, 0x22, result, end);
-    frame::put_bare(m.frame, end, out, next);
-    Pen {
-        at: next + end,
-        lines: pen.lines + 1,
-    }
+    put_message(out, pen, [0x22, result], m)
 }
 
 // A number of two octets, the length of a name, and the name.
@@ -192,11 +113,10 @@ fn put_sender(out: &mut [u8], at: usize, reference: u16, name: &[u8]) -> usize
     requires room { at + 3 + length name.now ≤ length out.old }
     ensures { Put out.old at (reference / 256 ∷ reference % 256 ∷ length name.now ∷ name.now) out.new result }
 {
-    let letters = name.len();
-    let next = pair(out, at, (reference / 256) as u8, (reference % 256) as u8);
-    let from = one(out, next, (letters % 256) as u8);
-    octets::put(out, from, name);
-    from + letters
+    let [high, low] = reference.to_be_bytes();
+    let next = put_octets(out, at, [high, low, name.len() as u8]);
+    octets::put(out, next, name);
+    next + name.len()
 }
 
 // A note's octets: reference and sender present, the type where there is one.
@@ -209,44 +129,32 @@ fn put_note(out: &mut [u8], at: usize, note: Note, name: &[u8]) -> usize
 {
     let shot = u8::from(note.multi_shot);
     let Some(message_type) = note.message_type else {
-        let next = pair(out, at, 24 + shot, note.confirmation);
+        let next = put_octets(out, at, [24 + shot, note.confirmation]);
         return put_sender(out, next, note.reference, name);
     };
-    let next = pair(out, at, 88 + shot, note.confirmation);
-    let after = one(out, next, message_type);
-    put_sender(out, after, note.reference, name)
+    let next = put_octets(out, at, [88 + shot, note.confirmation, message_type]);
+    put_sender(out, next, note.reference, name)
 }
 
-// Line 32 with a note.
-pub(crate) fn put_sent(out: &mut [u8], pen: Pen, note: Note, name: &[u8]) -> Pen
+// A line of a head and a note.
+pub(crate) fn put_noted<const N: usize>(
+    out: &mut [u8],
+    pen: Pen,
+    head: [u8; N],
+    note: Note,
+    name: &[u8],
+) -> Pen
+    requires small { length head ≤ 2 }
     requires most { note.confirmation ≤ 4 }
     requires least { 2 ≤ note.confirmation }
     requires named { length name.now ≤ 32 }
     requires lines { pen.lines ≤ 100 }
     requires room { pen.at + 12 + length name.now ≤ length out.old }
-    ensures { Laid out.old pen ((50 ∷ note_octets note name.now) ∷ []) out.new result }
-{
-    let size = said::before_name(note.message_type) + name.len();
-    let next = head_one(out, pen.at, 0x32, size);
-    let used = put_note(out, next, note, name);
-    Pen {
-        at: used,
-        lines: pen.lines + 1,
-    }
-}
-
-// Line 22 or 31 with a note: a kind, a result, and the note.
-pub(crate) fn put_noted(out: &mut [u8], pen: Pen, kind: u8, res: u8, note: Note, name: &[u8]) -> Pen
-    requires most { note.confirmation ≤ 4 }
-    requires least { 2 ≤ note.confirmation }
-    requires named { length name.now ≤ 32 }
-    requires lines { pen.lines ≤ 100 }
-    requires room { pen.at + 12 + length name.now ≤ length out.old }
-    ensures laid { Laid out.old pen ((kind ∷ res ∷ note_octets note name.now) ∷ []) out.new result }
+    ensures laid { Laid out.old pen ((head.entry ++ note_octets note name.now) ∷ []) out.new result }
     ensures place { result.at ≤ pen.at + 10 + length name.now }
 {
     let size = said::before_name(note.message_type) + name.len();
-    let next = head_two(out, pen.at, kind, res, size);
+    let next = put_head(out, pen.at, head, size);
     let used = put_note(out, next, note, name);
     Pen {
         at: used,
@@ -270,7 +178,7 @@ fn put_answer(out: &mut [u8], pen: Pen, say: Say, id: u16, name: &[u8]) -> Pen
         message_type: None,
         reference: id,
     };
-    put_noted(out, pen, 0x22, say.result, note, name)
+    put_noted(out, pen, [0x22, say.result], note, name)
 }
 
 // A line 22 for each of the first n identifiers that wait, in their order.
@@ -301,7 +209,7 @@ pub(crate) fn put_kept<H: Seen>(out: &mut [u8], pen: Pen, u: &H) -> Pen
     ensures { Laid out.old pen ((50 ∷ take (H.unit u.now).octets (H.unit u.now).kept) ∷ []) out.new result }
 {
     let kept = u.kept();
-    let next = head_one(out, pen.at, 0x32, kept.len());
+    let next = put_head(out, pen.at, [0x32], kept.len());
     octets::put(out, next, kept);
     Pen {
         at: next + kept.len(),

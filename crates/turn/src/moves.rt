@@ -4,7 +4,9 @@ ghost use Rattle.book.specs.Ready.{Ready};
 ghost use Rattle.book.specs.Turns.{takes};
 ghost use Rattle.book.specs.Waiting.{place_of};
 ghost use Rattle.turn_laws.specs.Moves.{rested};
+ghost use Rattle.turn.specs.Columns.{number_of};
 
+use crate::column::Column;
 use crate::held::Held;
 use image::seen::Seen;
 use state::turns;
@@ -19,10 +21,10 @@ pub(crate) fn rest<H: Held>(u: &mut H)
 }
 
 // Whether the state that a unit is in takes an event, by the event's column in the turn table.
-pub(crate) fn takes<H: Seen>(u: &H, column: usize) -> bool
-    ensures { result ≡ takes (H.unit u.now).state column }
+pub(crate) fn takes<H: Seen>(u: &H, column: Column) -> bool
+    ensures { result ≡ takes (H.unit u.now).state (number_of column) }
 {
-    turns::taken(usize::from(u.state()), column)
+    turns::taken(usize::from(u.state()), column as usize)
 }
 
 // Where an identifier waits.

@@ -8,6 +8,7 @@ ghost use Rattle.turn_laws.specs.Moves.{joined};
 ghost use Rattle.said.specs.Saying.{msg_at};
 ghost use Rattle.turn.specs.Acts.{Acted};
 
+use crate::column::Column;
 use crate::held::Held;
 use crate::message::{Message, Request};
 use crate::{ROOM, lines, moves};
@@ -31,7 +32,12 @@ fn on_idle_single<H: Held>(u: &mut H, r: &Request, out: &mut [u8; ROOM]) -> Verd
     ensures { Acted (H.unit u.old) (on_single r.now.terms (msg_at r.now.message.frame.now r.now.message.header) (state_of (H.unit u.old))) out.old result (H.unit u.new) out.new }
 {
     let t = said::settle(r.terms);
-    let done = lines::put_given(out, Pen { at: 0, lines: 0 }, 0x30, t, &r.message);
+    let done = lines::put_message(
+        out,
+        lines::START,
+        [0x30, t.class, t.priority, t.rer],
+        &r.message,
+    );
     u.enter(1, t);
     join(u, r);
     lines::finished(done)
@@ -44,7 +50,7 @@ fn on_idle_multi<H: Held>(u: &mut H, r: &Request, out: &mut [u8; ROOM]) -> Verdi
     ensures { Acted (H.unit u.old) (on_multi (bar r.now.terms (msg_at r.now.message.frame.now r.now.message.header) (state_of (H.unit u.old))) r.now.terms (msg_at r.now.message.frame.now r.now.message.header) (state_of (H.unit u.old))) out.old result (H.unit u.new) out.new }
 {
     let t = said::settle(r.terms);
-    let done = lines::put_terms(out, Pen { at: 0, lines: 0 }, 0x30, t);
+    let done = lines::put_line(out, lines::START, [0x30, t.class, t.priority, t.rer]);
     u.enter(2, t);
     u.keep(r.message.frame);
     join(u, r);
@@ -59,7 +65,7 @@ fn on_next_plain<H: Held>(u: &mut H, r: &Request, out: &mut [u8; ROOM]) -> Verdi
     requires same { same_terms (settled r.now.terms) (H.unit u.old).terms ≡ true }
     ensures { Acted (H.unit u.old) (on_multi (bar r.now.terms (msg_at r.now.message.frame.now r.now.message.header) (state_of (H.unit u.old))) r.now.terms (msg_at r.now.message.frame.now r.now.message.header) (state_of (H.unit u.old))) out.old result (H.unit u.new) out.new }
 {
-    let done = lines::put_framed(out, Pen { at: 0, lines: 0 }, 0x32, &r.message);
+    let done = lines::put_message(out, lines::START, [0x32], &r.message);
     u.at_elapsed(4, 0);
     lines::finished(done)
 }
@@ -79,7 +85,7 @@ fn on_next_sure<H: Held>(u: &mut H, r: &Request, out: &mut [u8; ROOM]) -> Verdic
     if 8 <= u.count() {
         return Err(Refusal::Full);
     }
-    let done = lines::put_framed(out, Pen { at: 0, lines: 0 }, 0x32, &r.message);
+    let done = lines::put_message(out, lines::START, [0x32], &r.message);
     u.at_elapsed(4, 0);
     u.append(id);
     lines::finished(done)
@@ -108,7 +114,7 @@ fn on_multi<H: Held>(u: &mut H, r: &Request, out: &mut [u8; ROOM]) -> Verdict
     requires ready { Ready (H.unit u.old) }
     ensures { Acted (H.unit u.old) (on_multi (bar r.now.terms (msg_at r.now.message.frame.now r.now.message.header) (state_of (H.unit u.old))) r.now.terms (msg_at r.now.message.frame.now r.now.message.header) (state_of (H.unit u.old))) out.old result (H.unit u.new) out.new }
 {
-    if !moves::takes(u, 1) {
+    if !moves::takes(u, Column::Multi) {
         return Err(Refusal::WrongState);
     }
     if u.state() == 0 {
@@ -122,7 +128,7 @@ fn on_single<H: Held>(u: &mut H, r: &Request, out: &mut [u8; ROOM]) -> Verdict
     requires ready { Ready (H.unit u.old) }
     ensures { Acted (H.unit u.old) (on_single r.now.terms (msg_at r.now.message.frame.now r.now.message.header) (state_of (H.unit u.old))) out.old result (H.unit u.new) out.new }
 {
-    if !moves::takes(u, 0) {
+    if !moves::takes(u, Column::Single) {
         return Err(Refusal::WrongState);
     }
     on_idle_single(u, r, out)

@@ -8,6 +8,7 @@ ghost use Rattle.book.specs.View.{frame_at};
 ghost use Rattle.said.specs.Saying.{greeted};
 ghost use Rattle.turn.specs.Acts.{Acted};
 
+use crate::column::Column;
 use crate::held::Held;
 use crate::message::Message;
 use crate::{ROOM, ends, lines, moves};
@@ -21,7 +22,7 @@ fn cut_off<H: Held>(u: &H, m: &Message, out: &mut [u8; ROOM]) -> Verdict
     ensures { Acted (H.unit u.now) (done idle (with_seen m.now.extensions (send (cut 10) ∷ []))) out.old result (H.unit u.now) out.new }
 {
     let pen = lines::put_seen(out, m);
-    let done = lines::put_two(out, pen, 0x35, 10);
+    let done = lines::put_line(out, pen, [0x35, 10]);
     lines::finished(done)
 }
 
@@ -35,13 +36,13 @@ fn on_single_shot<H: Held>(u: &H, a: Terms, m: &Message, out: &mut [u8; ROOM]) -
 {
     let pen = lines::put_seen(out, m);
     if m.header.confirmation == 0 {
-        let given = lines::put_given(out, pen, 0x20, a, m);
-        let done = lines::put_two(out, given, 0x31, 1);
+        let given = lines::put_message(out, pen, [0x20, a.class, a.priority, a.rer], m);
+        let done = lines::put_line(out, given, [0x31, 1]);
         return lines::finished(done);
     }
-    let given = lines::put_given(out, pen, 0x21, a, m);
+    let given = lines::put_message(out, pen, [0x21, a.class, a.priority, a.rer], m);
     let note = said::ack_of(m.frame, m.header);
-    let done = lines::put_noted(out, given, 0x31, 1, note, u.name());
+    let done = lines::put_noted(out, given, [0x31, 1], note, u.name());
     lines::finished(done)
 }
 
@@ -66,7 +67,7 @@ fn on_opened<H: Held>(u: &mut H, a: Terms, out: &mut [u8; ROOM]) -> Verdict
     requires in_state { (H.unit u.old).state ≡ 0 }
     ensures { Acted (H.unit u.old) (first_contact (setup_of (H.unit u.old)) a None) out.old result (H.unit u.new) out.new }
 {
-    let done = lines::put_two(out, Pen { at: 0, lines: 0 }, 0x31, 0);
+    let done = lines::put_line(out, lines::START, [0x31, 0]);
     u.enter(4, a);
     lines::finished(done)
 }
@@ -77,7 +78,7 @@ fn on_faulty_start<H: Held>(u: &H, reason: u8, out: &mut [u8; ROOM]) -> Verdict
     requires in_state { (H.unit u.now).state ≡ 0 }
     ensures { Acted (H.unit u.now) (done idle (send (cut reason) ∷ [])) out.old result (H.unit u.now) out.new }
 {
-    let done = lines::put_two(out, Pen { at: 0, lines: 0 }, 0x35, reason);
+    let done = lines::put_line(out, lines::START, [0x35, reason]);
     lines::finished(done)
 }
 
@@ -86,7 +87,7 @@ pub(crate) fn on_start<H: Held>(u: &mut H, a: Terms, frame: &[u8], out: &mut [u8
     requires ready { Ready (H.unit u.old) }
     ensures { Acted (H.unit u.old) (on_start (setup_of (H.unit u.old)) a (or_nothing frame.now) (state_of (H.unit u.old))) out.old result (H.unit u.new) out.new }
 {
-    if !moves::takes(u, 4) {
+    if !moves::takes(u, Column::StartAsked) {
         return Err(Refusal::WrongState);
     }
     if frame.len() == 0 {
@@ -110,7 +111,7 @@ fn on_unanswered<H: Held>(u: &mut H, out: &mut [u8; ROOM]) -> Verdict
         multi_shot: false,
         confirmation: 4,
     };
-    let done = lines::put_answers(out, Pen { at: 0, lines: 0 }, say, u, 1);
+    let done = lines::put_answers(out, lines::START, say, u, 1);
     u.to_idle();
     lines::finished(done)
 }
@@ -136,7 +137,7 @@ fn on_single_answer<H: Held>(u: &mut H, frame: &[u8], out: &mut [u8; ROOM]) -> V
 {
     if u.count() == 0 {
         u.to_idle();
-        return lines::finished(Pen { at: 0, lines: 0 });
+        return lines::finished(lines::START);
     }
     if frame.len() == 0 {
         return on_unanswered(u, out);
@@ -153,7 +154,7 @@ fn on_begun<H: Held>(u: &mut H, out: &mut [u8; ROOM]) -> Verdict
     requires in_state { (H.unit u.old).state ≡ 2 }
     ensures { Acted (H.unit u.old) (on_reply (setup_of (H.unit u.old)) true None (state_of (H.unit u.old))) out.old result (H.unit u.new) out.new }
 {
-    let done = lines::put_kept(out, Pen { at: 0, lines: 0 }, u);
+    let done = lines::put_kept(out, lines::START, u);
     let t = u.terms();
     u.enter(4, t);
     lines::finished(done)
@@ -171,8 +172,8 @@ fn on_turned_down<H: Held>(u: &mut H, out: &mut [u8; ROOM]) -> Verdict
         confirmation: 3,
     };
     let n = u.count();
-    let pen = lines::put_answers(out, Pen { at: 0, lines: 0 }, say, u, n);
-    let done = lines::put_two(out, pen, 0x24, 3);
+    let pen = lines::put_answers(out, lines::START, say, u, n);
+    let done = lines::put_line(out, pen, [0x24, 3]);
     u.to_idle();
     lines::finished(done)
 }
@@ -207,7 +208,7 @@ pub(crate) fn on_reply<H: Held>(
     requires ready { Ready (H.unit u.old) }
     ensures { Acted (H.unit u.old) (on_reply (setup_of (H.unit u.old)) accepted (or_nothing frame.now) (state_of (H.unit u.old))) out.old result (H.unit u.new) out.new }
 {
-    if !moves::takes(u, 5) {
+    if !moves::takes(u, Column::StartAnswered) {
         return Err(Refusal::WrongState);
     }
     if u.state() == 2 {

@@ -2,9 +2,7 @@
 use Rattle.turn_laws.proofs.DataLaws.{heard_bad, heard_good}
 use Rattle.turn.proofs.TableLaws.{data_no}
 use Rattle.turn.proofs.TurnLaws.{refused_in_place}
-use Rattle.book.proofs.Views.{reads_made}
 use mathlib.Core.Path.{refl, sym, ◌∙◌}
-use native.Mathlib.Omega.{arith}
 use Rattle.turn.proofs.data.on_data.Goals as goal
 
 pub returns-then-not-takes : goal.returns-then-not-takes

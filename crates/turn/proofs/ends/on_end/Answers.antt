@@ -9,4 +9,4 @@ pub returns-then-not-takes : goal.returns-then-not-takes
 returns-then-not-takes g c = refused_in_place _ (end_no c.requires.ready c.takes.ensures c.if-not-takes.true) refl
 
 pub returns : goal.returns
-returns g c = asked_end c.requires.ready (sym c.takes.ensures ∙ c.if-not-takes.false) c.put_one-done.ensures.laid c.at_elapsed.ensures (as_turn c.finished.ensures)
+returns g c = asked_end c.requires.ready (sym c.takes.ensures ∙ c.if-not-takes.false) c.put_line-done.ensures.laid c.at_elapsed.ensures (as_turn c.finished.ensures)

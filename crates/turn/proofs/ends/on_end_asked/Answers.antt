@@ -9,4 +9,4 @@ pub returns-then-not-takes : goal.returns-then-not-takes
 returns-then-not-takes g c = refused_in_place _ (fin_no c.requires.ready c.takes.ensures c.if-not-takes.true) refl
 
 pub returns : goal.returns
-returns g c = was_ended c.requires.ready (sym c.takes.ensures ∙ c.if-not-takes.false) c.put_two-pen.ensures.laid c.put_uncertain-next.ensures.laid c.put_one-done.ensures.laid c.to_idle.ensures (as_turn c.finished.ensures)
+returns g c = was_ended c.requires.ready (sym c.takes.ensures ∙ c.if-not-takes.false) c.put_line-pen.ensures.laid c.put_uncertain-next.ensures.laid c.put_line-done.ensures.laid c.to_idle.ensures (as_turn c.finished.ensures)

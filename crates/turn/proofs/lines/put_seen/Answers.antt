@@ -1,8 +1,5 @@
--- `turn::lines::put_seen` meets its contract. Closed by laws of DataLaws and PenLaws.
+-- `turn::lines::put_seen` meets its contract. Closed by laws of DataLaws.
 use Rattle.turn_laws.proofs.DataLaws.{seen_none, seen_some}
-use Rattle.said.proofs.PenLaws.{line_made}
-use mathlib.Core.List.{[], ◌∷◌}
-use mathlib.Core.Path.{refl}
 use borrow.Author.Rules.{rules}
 use Rattle.turn.proofs.lines.put_seen.Goals as goal
 
@@ -10,4 +7,4 @@ pub returns-then-n-eq0-clause-laid : goal.returns-then-n-eq0-clause-laid
 returns-then-n-eq0-clause-laid c = search seen_none
 
 pub returns-clause-laid : goal.returns-clause-laid
-returns-clause-laid c = seen_some _ (search rules) (search rules) (line_made (37 ∷ []) _ 2 0 _ refl c.head_one-next.ensures c.pair-end.ensures)
+returns-clause-laid c = seen_some _ (search rules) (search rules) (rw c.to_be_bytes.ensures at c.put_line.ensures.laid)

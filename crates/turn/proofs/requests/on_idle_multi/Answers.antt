@@ -4,7 +4,7 @@ use Rattle.turn.proofs.TurnLaws.{as_turn, blank_kept}
 use Rattle.turn.proofs.requests.on_idle_multi.Goals as goal
 
 pub returns : goal.returns
-returns g c = asked_multi c.requires.ready c.args.r.now.reads c.args.r.now.terms c.requires.in_state c.args.r.now.asks c.settle-t.ensures c.put_terms-done.ensures.laid c.enter.ensures c.keep.ensures c.join.ensures (as_turn c.finished.ensures)
+returns g c = asked_multi c.requires.ready c.args.r.now.reads c.args.r.now.terms c.requires.in_state c.args.r.now.asks c.settle-t.ensures c.put_line-done.ensures.laid c.enter.ensures c.keep.ensures c.join.ensures (as_turn c.finished.ensures)
 
 pub keep-requires-clause-blank : goal.keep-requires-clause-blank
 keep-requires-clause-blank g c = blank_kept _ _ _ c.enter.ensures

@@ -15,7 +15,7 @@ pub returns-then-count-ge8 : goal.returns-then-count-ge8
 returns-then-count-ge8 g c = refused_in_place _ (ask_5 c.requires.ready c.args.r.now.reads c.args.r.now.terms c.requires.in_state c.requires.same c.requires.confirmation _ refl c.identifier-id.ensures c.find.ensures (none_found (sym c.is_some.ensures ∙ c.if-is_some.false)) (omega (arith, c.if-count-ge8.true, c.count.ensures))) refl
 
 pub returns : goal.returns
-returns g c = asked_next_sure c.requires.ready c.args.r.now.reads c.args.r.now.terms c.requires.in_state c.requires.same c.requires.confirmation _ refl c.identifier-id.ensures c.find.ensures (none_found (sym c.is_some.ensures ∙ c.if-is_some.false)) (omega (arith, c.if-count-ge8.false, c.count.ensures)) c.put_framed-done.ensures.laid c.at_elapsed.ensures c.append.ensures (as_turn c.finished.ensures)
+returns g c = asked_next_sure c.requires.ready c.args.r.now.reads c.args.r.now.terms c.requires.in_state c.requires.same c.requires.confirmation _ refl c.identifier-id.ensures c.find.ensures (none_found (sym c.is_some.ensures ∙ c.if-is_some.false)) (omega (arith, c.if-count-ge8.false, c.count.ensures)) c.put_message-done.ensures.laid c.at_elapsed.ensures c.append.ensures (as_turn c.finished.ensures)
 
 pub append-requires : goal.append-requires
 unfolding advanced

@@ -4,4 +4,4 @@ use Rattle.turn.proofs.TurnLaws.{as_turn}
 use Rattle.turn.proofs.starts.cut_off.Goals as goal
 
 pub returns : goal.returns
-returns g c = cut_made c.requires.ready _ c.requires.in_state c.put_seen-pen.ensures.laid c.put_two-done.ensures.laid (as_turn c.finished.ensures)
+returns g c = cut_made c.requires.ready _ c.requires.in_state c.put_seen-pen.ensures.laid c.put_line-done.ensures.laid (as_turn c.finished.ensures)

@@ -4,4 +4,4 @@ use Rattle.turn.proofs.TurnLaws.{as_turn}
 use Rattle.turn.proofs.starts.on_faulty_start.Goals as goal
 
 pub returns : goal.returns
-returns g c = fault_made c.requires.ready c.requires.in_state c.put_two-done.ensures.laid (as_turn c.finished.ensures)
+returns g c = fault_made c.requires.ready c.requires.in_state c.put_line-done.ensures.laid (as_turn c.finished.ensures)

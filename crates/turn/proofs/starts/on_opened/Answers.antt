@@ -4,4 +4,4 @@ use Rattle.turn.proofs.TurnLaws.{as_turn}
 use Rattle.turn.proofs.starts.on_opened.Goals as goal
 
 pub returns : goal.returns
-returns g c = opened c.requires.ready c.args.a c.requires.in_state c.put_two-done.ensures.laid c.enter.ensures (as_turn c.finished.ensures)
+returns g c = opened c.requires.ready c.args.a c.requires.in_state c.put_line-done.ensures.laid c.enter.ensures (as_turn c.finished.ensures)

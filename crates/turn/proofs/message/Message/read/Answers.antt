@@ -1,6 +1,5 @@
 -- `turn::message::Message::read` meets its contract. Closed by `reads_made` of Views.
 use Rattle.book.proofs.Views.{reads_made}
-use mathlib.Core.Path.{refl, sym, ◌∙◌}
 use native.Mathlib.Omega.{arith}
 use Rattle.turn.proofs.message.Message.read.Goals as goal
 
