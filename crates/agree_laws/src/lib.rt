@@ -1,2 +1,2 @@
-// Laws alone, no code: the two engines, the unit by value and the unit in place, agree.
+// Laws alone, no code: the unit by value and the unit in place agree.
 #![tactic(auto)]

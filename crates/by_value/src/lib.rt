@@ -1,5 +1,5 @@
-// The first engine over an image of 618 octets: the unit taken out of it, turned by value, and put back. It stands beside the engine that changes the
-// image in place, to be compared with it.
+// The unit by value over an image of 618 octets: taken out of it, turned by value, and put back. It stands beside the engine that changes the image in
+// place, to be compared with it.
 #![tactic(auto)]
 
 ghost use Rattle.std.specs.Prelude.{◌≡◌};

@@ -81,7 +81,7 @@ fn event_len(n: usize, end: usize) -> Option<usize>
     if 0 < n && end == 2 * n { Some(n) } else { None }
 }
 
-// The line at the front of `s`; None where it has no line feed yet. One pass over its digits, and on to its line feed only where it is refused.
+// The line at the front of `s`; None where it has no line feed yet. One pass over its digits, and on to its line feed only where it is refused or still to come.
 pub fn line_in(s: &[u8], event: &mut [u8; 2048]) -> Option<Line>
     ensures { (result ≡ line_in s.now) × ((event.new ≡ sets event.old 0 (leading s.now)) × (length event.old ≡ 2048)) }
 {
