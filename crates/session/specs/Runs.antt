@@ -1,7 +1,8 @@
 -- A RUN OF THE LISTING PROGRAM: what it does with `session` in some order, until its input ends. `held` is what was read and is not yet taken, `input`
 -- what is still to be read, `output` what is still to be written. Whatever the order, the blocks read and the room lent, the output is `listing` of
--- the input (proofs/Whole). Of the program's own loop (crate blocks) it is proved that each octet read is handed on once and in order, and that the
--- session is what such calls leave (blocks' `run`, listing's specs/Taking); that what it writes follows is read and tested, not proved.
+-- the input (proofs/Whole). Of the program's own loop (crate blocks) it is proved that what it reads, of any reader whose bytes are known, is handed on
+-- once and in order, and that the session is what such calls leave (blocks' `run`, listing's specs/Taking); that what it writes follows is read and
+-- tested, not proved.
 use Rattle.std.specs.Prelude.{ℕ, ◌≤◌, ◌≡◌, List, [], ◌++◌, length, drop}
 use Rattle.session.specs.Feeding.{Standing, most, feeding, finishing}
 use Rattle.session.specs.declared.Phase.TheVariants.{Stopped}
