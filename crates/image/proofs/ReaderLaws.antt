@@ -4,13 +4,8 @@ use mathlib.Core.Path.{◌≡◌, refl, sym, ◌∙◌}
 use mathlib.Core.List.{List}
 use native.Mathlib.Omega.{arith}
 use lib.ListN.{length, get_or, get_or-eq_default}
-use Rattle.book.specs.declared.Terms.{Terms}
 use Rattle.image.specs.Image.{two, waiting_in, unit_of}
 use Rattle.image.proofs.StoreLaws.{id_in, waiting_eight}
-
--- an octet that isn't there counts as 0
-pub none_there : (s : List ℕ) (i : ℕ) → length s ≤ i → 0 ≡ get_or s i 0
-none_there s i h = sym (get_or-eq_default s 0 {n = i} h)
 
 pub waiting_of_lem : (s : List ℕ) → (unit_of s).waiting ≡ waiting_in s
 unfolding unit_of
@@ -26,10 +21,3 @@ id_at s i h q = q ∙ id_in s i h
 
 pub id_none : (s : List ℕ) (i : ℕ) → 8 ≤ i → 0 ≡ get_or (unit_of s).waiting i 0
 id_none s i h = sym (get_or-eq_default (unit_of s).waiting 0 {n = i} (omega (arith, eight_wait s)))
-
--- ---- terms
-
-pub terms_read : (s : List ℕ) {a b c : ℕ} → a ≡ get_or s 611 0 → b ≡ get_or s 612 0 → c ≡ get_or s 613 0
-    → ◌≡◌ {A = Terms} (record { class = a; priority = b; rer = c }) (unit_of s).terms
-unfolding unit_of
-terms_read s ea eb ec = rw (ea, eb, ec)

@@ -21,10 +21,6 @@ abbrev pub number : List ℕ → ℕ
 number [] = 0
 number (x ∷ xs) = x + 256 * number xs
 
--- octet i of s in its place
-place : List ℕ → ℕ → ℕ
-place s i = byte_worth i (get_or s i 0)
-
 worth : (i b : ℕ) → byte_worth (suc i) b ≡ 256 * byte_worth i b
 worth zero b = omega arith
 worth (suc i) b = let e : 256 ^ suc (suc i) ≡ 256 ^ suc i * 256 = pow-suc 256 (suc i) in rw e (omega arith)
@@ -163,12 +159,6 @@ module _ (s : List ℕ) (n i : ℕ) (words : List (List ℕ)) {o : Bool} {w r : 
 
   pub tail_on : {m : ℕ} → r ≡ 0 → m ≡ n - 8 → zeros (drop m rest) ≡ o
   tail_on {m} z e = ap (λ k. zeros (drop k rest)) e ∙ ap (λ b. both b (zeros (drop (n - 8) rest))) (sym (eq-eqb r 0 z)) ∙ step
-
--- ---- the name
-
-pub name_wide : (s : List ℕ) → length s ≡ 618 → length (unit_of s).name ≡ 32
-unfolding unit_of
-name_wide s e = length-take-le 32 s (omega arith)
 
 -- ---- the waiting list
 

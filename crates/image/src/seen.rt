@@ -10,6 +10,7 @@ pub trait Seen {
     // The unit that it stands for.
     ghost unit: { Self → Value };
 
+    // A number, and no enum: a caller in C may hold any, and soundness (`sound_of`) tests it.
     fn state(&self) -> u8
         ensures { result ≡ (unit self.now).state };
 
@@ -73,6 +74,7 @@ pub fn clear(octets: &[u8]) -> bool
     octets.iter().fold(0, |bits, octet| bits | octet) == 0
 }
 
+// Whether all identifiers are 0.
 fn clear_ids(ids: &[u16]) -> bool
     ensures { result ≡ zeros ids.now }
 {
@@ -166,6 +168,7 @@ fn is_tail_clear(octets: &[u8], mut n: u16) -> bool
     true
 }
 
+// The fields stand at the places of specs/Image, by number: the block of octets is the interface to C.
 #[tactic(auto, unfolding(crate::specs::Image::unit_of))]
 impl Seen for [u8; 618] {
     ghost unit = { unit_of };

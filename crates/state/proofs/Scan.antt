@@ -51,6 +51,3 @@ module _ (w : List ℕ) (i n : ℕ) {id : ℕ} {r : Bool} (m : n ≤ length w) (
       let a : waits (get_or w i 0) (slice_range w (i + 1) n) ≡ false = ap (λ v. waits v (slice_range w (i + 1) n)) (sym e) ∙ sym q ∙ t in
       let k : differ (slice_range w i n) ≡ differ (slice_range w (i + 1) n) = ap differ (next w i n h m) ∙ rw a in
       sym k ∙ inv
-
-pub differ_end : (w : List ℕ) (i n : ℕ) → differ (slice_range w i n) ≡ differ (take n w) → n ≤ i → true ≡ differ (take n w)
-differ_end w i n inv h = sym (ap differ (none w i n h)) ∙ inv
