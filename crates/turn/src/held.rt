@@ -7,6 +7,13 @@ ghost use Rattle.turn.specs.Acts.{NoneBehind};
 use book::Terms;
 use image::seen::Seen;
 
+// The terms of a unit in Idle.
+pub(crate) const NO_TERMS: Terms = Terms {
+    class: 0,
+    priority: 0,
+    rer: 0,
+};
+
 pub trait Held: Seen {
     // A new unit in Idle, in place of the one that was held: its limits in ticks, its name, and how many letters of it count.
     fn make(&mut self, start: u16, end: u16, inactivity: u16, name: [u8; 32], letters: usize)

@@ -5,7 +5,7 @@ ghost use Rattle.image.specs.Image.{unit_of, rest_octets};
 ghost use Rattle.image.specs.Fields.{forgotten};
 ghost use Rattle.turn_laws.specs.Moves.{made};
 
-use crate::held::Held;
+use crate::held::{Held, NO_TERMS};
 use crate::stores;
 use book::Terms;
 use image::seen::Seen;
@@ -20,7 +20,7 @@ fn forget(image: &mut [u8; 618])
     stores::set_octets(image, 0);
 }
 
-// The state and what stands behind it in an image, for a unit in Idle.
+// The state and what stands behind it in an image, for a unit in Idle. Crate by_value writes the same of any unit; here none is built to be written.
 fn rest_of(start: u16, end: u16, inactivity: u16, letters: u8) -> [u8; 16]
     ensures { result ≡ rest_octets (made start end inactivity [] letters) }
 {
@@ -68,14 +68,7 @@ impl Held for [u8; 618] {
     }
 
     fn to_idle(&mut self) {
-        self.enter(
-            0,
-            Terms {
-                class: 0,
-                priority: 0,
-                rer: 0,
-            },
-        );
+        self.enter(0, NO_TERMS);
         stores::clear_ids(self);
         stores::set_count(self, 0);
     }

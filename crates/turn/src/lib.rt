@@ -15,7 +15,7 @@ use state::{events, sound};
 mod column;
 mod data;
 mod ends;
-pub mod held;
+mod held;
 mod in_place;
 mod lines;
 mod message;
@@ -23,7 +23,7 @@ mod moves;
 mod requests;
 mod starts;
 mod stores;
-mod value;
+pub mod value;
 
 // The octets of the lent buffer that an event's lines may take.
 const ROOM: usize = 1024;

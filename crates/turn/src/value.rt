@@ -1,28 +1,34 @@
 // The moves of a unit that is held by value.
-use crate::held::Held;
+use crate::held::{Held, NO_TERMS};
 use book::{Terms, Unit};
 use state::waiting;
+
+// A unit with every number 0.
+pub const BLANK: Unit = Unit {
+    name: [0; 32],
+    waiting: [0; 8],
+    kept: [0; 554],
+    state: 0,
+    start: 0,
+    end: 0,
+    inactivity: 0,
+    elapsed: 0,
+    terms: NO_TERMS,
+    letters: 0,
+    count: 0,
+    octets: 0,
+};
 
 #[tactic(auto, unfolding(turn_laws::specs::Moves::advanced, turn_laws::specs::Moves::entered, turn_laws::specs::Moves::cleared, turn_laws::specs::Moves::waiting_with))]
 impl Held for Unit {
     fn make(&mut self, start: u16, end: u16, inactivity: u16, name: [u8; 32], letters: usize) {
         *self = Unit {
             name,
-            waiting: [0; 8],
-            kept: [0; 554],
-            state: 0,
             start,
             end,
             inactivity,
-            elapsed: 0,
-            terms: Terms {
-                class: 0,
-                priority: 0,
-                rer: 0,
-            },
             letters,
-            count: 0,
-            octets: 0,
+            ..BLANK
         };
     }
 
@@ -40,14 +46,7 @@ impl Held for Unit {
     }
 
     fn to_idle(&mut self) {
-        self.enter(
-            0,
-            Terms {
-                class: 0,
-                priority: 0,
-                rer: 0,
-            },
-        );
+        self.enter(0, NO_TERMS);
         self.waiting = [0; 8];
         self.count = 0;
     }

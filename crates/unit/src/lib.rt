@@ -5,28 +5,8 @@ ghost use Rattle.std.specs.Prelude.{◌≡◌, length};
 ghost use Rattle.book.specs.Step.{step, Turned, set_up};
 ghost use Rattle.unit.specs.UserData.{user_data_of};
 
-use book::{Terms, Turn, Unit};
+use book::{Turn, Unit};
 use state::events;
-
-// What a setup writes over.
-const BLANK: Unit = Unit {
-    name: [0; 32],
-    waiting: [0; 8],
-    kept: [0; 554],
-    state: 0,
-    start: 0,
-    end: 0,
-    inactivity: 0,
-    elapsed: 0,
-    terms: Terms {
-        class: 0,
-        priority: 0,
-        rer: 0,
-    },
-    letters: 0,
-    count: 0,
-    octets: 0,
-};
 
 // One event: the unit after it, and its lines in the lent buffer.
 pub fn handle(mut unit: Unit, event: &[u8], out: &mut [u8]) -> Turn
@@ -40,7 +20,7 @@ pub fn handle(mut unit: Unit, event: &[u8], out: &mut [u8]) -> Turn
 pub fn setup(start: u16, end: u16, inactivity: u16, name: &[u8]) -> Turn
     ensures { result ≡ set_up start end inactivity name.now }
 {
-    let mut unit = BLANK;
+    let mut unit = turn::value::BLANK;
     let verdict = turn::setup(&mut unit, start, end, inactivity, name);
     Turn { unit, verdict }
 }
