@@ -69,6 +69,7 @@ fn tell_all<T: Teller, R: Print + Eprint>(
     ensures took { Chain T.takes teller.old (take result block.now) teller.new }
 {
     let mut rest = block;
+    // How far a turn goes is what the teller says, so no iterator is plainer.
     while !rest.is_empty() {
         let taken = teller.tell(page, rest, out);
         rest = &rest[taken..];

@@ -5,7 +5,7 @@ ghost use Rattle.embed.specs.Fields.{pair, field_octets, block_of};
 
 use frame::{Place, Whole};
 
-// Two numbers, of two octets each.
+// Two numbers, of two octets each; of a larger one, which no frame has, the lower two, so that there is an answer to every number.
 fn pairs(a: usize, b: usize) -> [u8; 4]
     ensures { result ≡ pair a ++ pair b }
 {

@@ -1,4 +1,4 @@
-// The words for 01's numbers.
+// The words for 01's numbers. By number, and no enum between: anybody may have written the line, so that each may be any octet, and has its words.
 ghost use Rattle.std.specs.Prelude.{◌≡◌, ◌≤◌, length};
 ghost use Rattle.phrases.specs.Page.{Room, Writes};
 ghost use Rattle.phrases.specs.Tables.{shot_words, confirmation_words, rer_words, terms_words, accepted_words, delivery_words, fault_meaning, reason_meaning, reason_words, refusal_meaning, state_name};

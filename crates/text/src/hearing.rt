@@ -158,6 +158,7 @@ pub fn feed<H: Hearer>(
         taken: 0,
         written: 0,
     };
+    // Each turn takes a character or more, so these turns are enough; how far one goes is what its line says.
     for _ in 0..input.len() {
         if out.len() - fed.written < H::MOST {
             return fed;

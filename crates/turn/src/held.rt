@@ -1,4 +1,5 @@
-// A unit that can be moved, whatever it is held as: each move changes it where it is lent.
+// A unit that can be moved, whatever it is held as: each move changes it where it is lent. That it is ready stays a clause of the moves and of the events'
+// functions: an event moves a unit by steps between which it isn't, so a type that says so would be taken apart at each, which is no plainer.
 ghost use Rattle.std.specs.Prelude.{◌≡◌, ◌≤◌, ◌<◌, length, replicate};
 ghost use Rattle.book.specs.Ready.{Ready};
 ghost use Rattle.turn_laws.specs.Moves.{made, advanced, entered, cleared, keeping, appended, removed};

@@ -86,6 +86,7 @@ impl Held for [u8; 618] {
 
     fn remove(&mut self, place: usize) {
         let last = self.count() - 1;
+        // Place by place, and no `copy_within` of octets: the laws of stores are of identifiers.
         for i in place..last {
             let id = self.id(i + 1);
             stores::set_id(self, i, id);

@@ -10,7 +10,7 @@ use phrases::spelling::Page;
 use phrases::{frames, tables};
 use state::{events, sound};
 
-// An event that is refused.
+// An event that is refused, by 01's number, which is what is said.
 fn none(page: &mut Page, refusal: u8)
     requires { Room page.old 140 }
     ensures { Writes page.old (none_words refusal) 140 page.new }

@@ -9,7 +9,7 @@ use book::Terms;
 use phrases::spelling::Page;
 use phrases::{frames, tables};
 
-// A line of a listing, by its kind.
+// A line of a listing, by its kind. Results, reasons, states and refusals stay octets: their words are found by number.
 #[derive(Clone, Copy)]
 pub enum Output {
     // 00
