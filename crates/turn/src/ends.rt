@@ -1,5 +1,5 @@
 // The events that end a dialogue or let it grow old: 03, 04, 13, 14, 15, 16, and the falls.
-ghost use Rattle.std.specs.Prelude.{◌≡◌, [], ◌∷◌, ◌++◌, ◌+◌, ◌≤◌, length};
+ghost use Rattle.std.specs.Prelude.{[], ◌∷◌, ◌++◌, ◌+◌, ◌≤◌};
 ghost use Rattle.book.specs.Book.{on_end, on_tick, late, on_fin, on_fin_ok, on_abort, gone, waiting_of};
 ghost use Rattle.book.specs.Book as Book;
 ghost use Rattle.book.specs.Picture.{setup_of, state_of};
