@@ -1,5 +1,5 @@
 // 12, a D-DATA indication, in Associated and Ending.
-ghost use Rattle.std.specs.Prelude.{◌≡◌, true, ◌≤◌, ◌<◌, length};
+ghost use Rattle.std.specs.Prelude.{◌≡◌, true, ◌≤◌};
 ghost use Rattle.book.specs.Book.{on_dat, good};
 ghost use Rattle.book.specs.View.{reading_in, frame_at};
 ghost use Rattle.book.specs.Picture.{setup_of, state_of};

@@ -1,7 +1,7 @@
 // The events that end a dialogue or let it grow old: 03, 04, 13, 14, 15, 16, and the falls. Here as in the other events the kinds of lines, their results
 // and reasons, and the states are 01's numbers: lines and units carry them as octets, and so the rule book says them (`cut`, `gone`, `state_of`); an enum
 // would be made to be turned into its number at once, which is no plainer.
-ghost use Rattle.std.specs.Prelude.{◌≡◌, [], ◌∷◌, ◌++◌, ◌+◌, ◌≤◌, length};
+ghost use Rattle.std.specs.Prelude.{[], ◌∷◌, ◌++◌, ◌+◌, ◌≤◌};
 ghost use Rattle.book.specs.Book.{on_end, on_tick, late, on_fin, on_fin_ok, on_abort, gone, waiting_of};
 ghost use Rattle.book.specs.Book as Book;
 ghost use Rattle.book.specs.Picture.{setup_of, state_of};

@@ -15,6 +15,7 @@ pub(crate) const NO_TERMS: Terms = Terms {
     rer: 0,
 };
 
+// A state is its number here, and no enum: a unit that is handed in may hold any number there, and the same octet stands in its image.
 pub trait Held: Seen {
     // A new unit in Idle, in place of the one that was held: its limits in ticks, its name, and how many letters of it count.
     fn make(&mut self, start: u16, end: u16, inactivity: u16, name: [u8; 32], letters: usize)

@@ -1,7 +1,7 @@
 // One turn of a unit that is changed where it is lent, whatever it is held as: by value, or as its image. Rules: 01, "The five states".
 #![tactic(auto)]
 
-ghost use Rattle.std.specs.Prelude.{◌≡◌, ◌≤◌, length, drop};
+ghost use Rattle.std.specs.Prelude.{length, drop};
 ghost use Rattle.book.specs.Events.{event_of, frame_from};
 ghost use Rattle.book.specs.Picture.{setup_of, state_of};
 ghost use Rattle.book.specs.Ready.{Ready};

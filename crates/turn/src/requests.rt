@@ -1,5 +1,5 @@
 // The user's requests: 01 and 02.
-ghost use Rattle.std.specs.Prelude.{◌≡◌, true, ◌≤◌, ◌<◌, length};
+ghost use Rattle.std.specs.Prelude.{◌≡◌, true, ◌<◌};
 ghost use Rattle.book.specs.Book.{on_request, on_single, on_multi, bar, ids_of, same_terms, settled};
 ghost use Rattle.book.specs.View.{reading_in};
 ghost use Rattle.book.specs.Picture.{state_of};
@@ -13,7 +13,6 @@ use crate::held::Held;
 use crate::message::{Message, Request};
 use crate::{ROOM, lines, moves};
 use book::{Refusal, Terms, Verdict};
-use said::Pen;
 
 // A confirmed message's identifier joins the waiting list.
 fn join<H: Held>(u: &mut H, r: &Request)

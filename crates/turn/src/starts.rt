@@ -1,5 +1,5 @@
 // The events that begin a dialogue: 10, and 11 in the two start states.
-ghost use Rattle.std.specs.Prelude.{◌≡◌, true, false, [], ◌∷◌, ◌≤◌, ◌<◌, length, None, Some};
+ghost use Rattle.std.specs.Prelude.{◌≡◌, true, false, [], ◌∷◌, ◌≤◌, ◌<◌, None, Some};
 ghost use Rattle.book.specs.Book.{on_start, on_reply, first_contact, good, done, idle, with_seen, send, cut};
 ghost use Rattle.book.specs.Picture.{setup_of, state_of};
 ghost use Rattle.book.specs.Step.{or_nothing};
@@ -13,7 +13,7 @@ use crate::held::Held;
 use crate::message::Message;
 use crate::{ROOM, ends, lines, moves};
 use book::{Refusal, Terms, Verdict};
-use said::{Pen, Say};
+use said::Say;
 
 // A valid frame that is not expected here: 35 reason 10, and the unit stays.
 fn cut_off<H: Held>(u: &H, m: &Message, out: &mut [u8; ROOM]) -> Verdict

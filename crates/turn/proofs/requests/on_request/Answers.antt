@@ -15,9 +15,6 @@ returns-then-message-ne0 g c = refused_in_place _ (ask_extended (g.H.Seen.unit c
 pub returns-then-message-from : goal.returns-then-message-from
 returns-then-message-from g c = refused_in_place _ (ask_other (g.H.Seen.unit c.args.u.now) c.args.confirmed c.args.terms c.args.frame.now (sym c.in-Ok.ensures.1) refl c.if-message-ne0.false (c.from.ensures ∙ bit_weight c.args.confirmed) c.if-message-from.true) refl
 
-pub invariant_of-r : goal.invariant_of-r
-invariant_of-r g c = record { reads = rw c.if-message-ne0.false at c.in-Ok.message.reads; asks = omega (arith, c.if-message-from.false, c.from.ensures, bit_small c.args.confirmed) }
-
 pub returns-then-message : goal.returns-then-message
 returns-then-message g c = ask_vetted (g.H.Seen.unit c.args.u.now) c.args.confirmed c.args.terms c.args.frame.now (sym c.in-Ok.ensures.1) refl c.if-message-ne0.false (c.from.ensures ∙ bit_weight c.args.confirmed) c.if-message-from.false (omega (arith, c.from.ensures, bit_small c.args.confirmed)) (shot_multi c.requires.ready _ _ _ c.if-message.true (rw c.in-Ok.ensures.0 at c.on_multi.ensures))
 
