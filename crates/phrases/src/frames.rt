@@ -1,5 +1,5 @@
 // A frame in words: each field that is present, in 01's order, or the fault. The frame is read by crate `frame`.
-ghost use Rattle.std.specs.Prelude.{◌≤◌, ◌+◌, Option, ℕ, length};
+ghost use Rattle.std.specs.Prelude.{◌+◌, Option, ℕ, length};
 ghost use Rattle.frame.specs.Decoding.{one_octet, two_octets, held_at};
 ghost use Rattle.phrases.specs.Page.{Room, Writes};
 ghost use Rattle.phrases.specs.Frames.{numbered, type_words, sender_words, data_words, extension_words, head_words, names_words, rest_words, message_words, fault_words, frame_words, frame_or_nothing, answered_words};

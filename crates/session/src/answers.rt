@@ -1,5 +1,5 @@
 // What a line of the input leaves and prints: the first line, each later one, and a line that is none.
-ghost use Rattle.std.specs.Prelude.{◌≤◌, ◌+◌, ◌++◌, [], length};
+ghost use Rattle.std.specs.Prelude.{◌≤◌, ◌+◌, [], length};
 ghost use Rattle.octets.specs.Put.{Put};
 ghost use Rattle.text.specs.Reading.{held_in};
 ghost use Rattle.book.specs.Step.{step};

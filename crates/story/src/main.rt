@@ -2,7 +2,7 @@
 // words are the work of `words`, the answers of `session`, the reads and the writes of `blocks`; here are the turns of the two.
 #![tactic(auto)]
 
-ghost use Rattle.std.specs.Prelude.{◌≤◌, length};
+ghost use Rattle.std.specs.Prelude.{◌≤◌, IfSome, length};
 ghost use Rattle.story.specs.Taking.{Takes};
 
 use blocks::{Page, Teller};
@@ -29,14 +29,14 @@ impl Story {
     }
 }
 
-// The place after the first line; where it has no line feed yet, 0, or the end of a line that is too long anyhow.
-fn line_end(part: &[u8]) -> usize
-    ensures { result ≤ length part.now }
+// The place after the first line, or the end of one that is too long anyhow; None where it has no line feed yet.
+fn line_end(part: &[u8]) -> Option<usize>
+    ensures { IfSome result (λ end. end ≤ length part.now) }
 {
     match part.iter().position(|c| *c == b'\n') {
-        Some(feed) => feed + 1,
-        None if part.len() > 5000 => part.len(),
-        None => 0,
+        Some(feed) => Some(feed + 1),
+        None if part.len() > 5000 => Some(part.len()),
+        None => None,
     }
 }
 
@@ -50,10 +50,9 @@ impl Teller for Story {
         part: &[u8],
         out: &mut [u8],
     ) -> usize {
-        let end = line_end(part);
-        if end == 0 {
+        let Some(end) = line_end(part) else {
             return 0;
-        }
+        };
         let line = &part[..end];
         let fed = words::feed(self.reader, line, out);
         self.reader = fed.state;

@@ -1,5 +1,5 @@
 // Lines heard one after the other, in parts of any length: what is the same for all who hear them.
-ghost use Rattle.std.specs.Prelude.{◌≡◌, ◌≤◌, ◌+◌, ◌-◌, true, false, ltb, length, drop, take, Option, List, ℕ, Some, None};
+ghost use Rattle.std.specs.Prelude.{◌≡◌, ◌≤◌, ◌+◌, ◌-◌, true, false, ltb, length, Option, List, ℕ, Some, None};
 ghost use Rattle.octets.specs.Choice.{either};
 ghost use Rattle.text.specs.Hearing.{Answer, Heard, Hears, Takes, Feeds, standing, left_at, line_taken, feeding};
 

@@ -53,16 +53,8 @@ fn output_of(s: &[u8]) -> Output
 {
     match *s {
         [] | [0x00, ..] => Output::Setup,
-        [0x20, class, priority, rer @ 1..=2, ..] => Output::Transfer(
-            false,
-            Terms {
-                class,
-                priority,
-                rer,
-            },
-        ),
-        [0x21, class, priority, rer @ 1..=2, ..] => Output::Transfer(
-            true,
+        [kind @ 0x20..=0x21, class, priority, rer @ 1..=2, ..] => Output::Transfer(
+            kind == 0x21,
             Terms {
                 class,
                 priority,
