@@ -12,7 +12,7 @@ pub(crate) fn unit_in(image: &[u8; 618]) -> Unit
     let mut name = [0; 32];
     name.copy_from_slice(&image[..32]);
     let mut kept = [0; 554];
-    kept.copy_from_slice(&image[48..602]);
+    octets::put(&mut kept, 0, &image[48..602]);
     Unit {
         name,
         waiting: [

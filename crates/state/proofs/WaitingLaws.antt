@@ -1,18 +1,17 @@
--- The waiting list in its array: what std's words for a search and a copy say of it, and each step of a loop.
+-- The waiting list in its array: what std's words for a search say of it, and each step of a loop.
 use Rattle.std.specs.Prelude.{Some}
-use Rattle.std.specs.List.{copy_within, position, position_from}
+use Rattle.std.specs.List.{position, position_from}
 use Rattle.std.proofs.lemmas.Iterator.Adapters.{position_from-zero}
-use Rattle.std.proofs.lemmas.List.Edits.{paste_all}
-use Prim.Native.Nat.{ℕ, suc, ◌+◌, ◌-◌, ◌<◌, ◌≤◌}
+use Prim.Native.Nat.{ℕ, suc, ◌+◌, ◌<◌, ◌≤◌}
 use mathlib.Core.Path.{◌≡◌, refl, ap, sym, ◌∙◌}
 use mathlib.Core.Bool.{Bool, true, false, cond}
 use mathlib.Core.List.{List, [], ◌∷◌, ◌++◌, append_assoc}
 use native.Mathlib.Numerals.{add-one}
 use native.Mathlib.Omega.{arith}
-use borrow.Author.Tests.{lt-ltb}
+use borrow.Author.Tests.{lt-ltb, le-ltb}
 use lib.Dec.{eqb}
-use lib.ListN.{length, take, drop, get_or, set, length-append, length-take, length-drop, drop_of_length-le}
-use lib.Seq.{drop-cons, set-append_seam, take-suc-set, drop-set-lt, set_split}
+use lib.ListN.{length, take, drop, get_or, set, drop_of_length-le}
+use lib.Seq.{drop-cons, take-suc-set, drop-set-lt, set_split}
 use Rattle.octets.specs.Choice.{pick}
 use Rattle.book.specs.Waiting.{place_of, closed}
 
@@ -33,28 +32,13 @@ placed x w = position_from-zero (λ y. eqb x y) w ∙ placed_from x 0 w
 
 -- ---- without
 
-pub closed_up : (w : List ℕ) (at : ℕ) → length w ≡ 8 → at < 8 → set (copy_within w (at + 1) 8 at) 7 0 ≡ closed w at
-unfolding closed
-closed_up w at e h =
-    let n : 8 - (at + 1) ≡ length (drop (at + 1) w) = omega (arith, length-drop (at + 1) w) in
-    let k : at + (8 - (at + 1)) ≡ 7 = omega arith in
-    let z : drop 8 w ≡ [] = drop_of_length-le w {i = 8} (omega arith) in
-    let m : length (take at w ++ drop (at + 1) w) ≡ 7 =
-    omega (arith, length-append (take at w) (drop (at + 1) w), length-drop (at + 1) w, length-take at w)
-    in
-    let p : copy_within w (at + 1) 8 at ≡ (take at w ++ drop (at + 1) w) ++ (get_or w 7 0 ∷ []) =
-    paste_all w at (drop (at + 1) w) (8 - (at + 1)) n ∙ rw (k, drop-cons w 7 0 (omega arith), z, append_assoc)
-    in
-    let q : set ((take at w ++ drop (at + 1) w) ++ (get_or w 7 0 ∷ [])) 7 0 ≡ (take at w ++ drop (at + 1) w) ++ (0 ∷ []) =
-    rw m at (set-append_seam (take at w ++ drop (at + 1) w) (get_or w 7 0) [] 0)
-    in
-    rw (p, q, append_assoc, add-one, lt-ltb at 8 h)
-
--- ---- the same step by step, for a unit that is held as octets
-
 closed_in : (w : List ℕ) (i : ℕ) → i < 8 → closed w i ≡ take i w ++ (drop (suc i) w ++ (0 ∷ []))
 unfolding closed
 closed_in w i h = rw (lt-ltb i 8 h)
+
+pub closed_past : (w : List ℕ) (i : ℕ) → 8 ≤ i → w ≡ closed w i
+unfolding closed
+closed_past w i h = rw (le-ltb i 8 h)
 
 -- closing up at i is closing up at i + 1 once the next entry is stored at i
 pub closed_step : {o : List ℕ} (w : List ℕ) (i : ℕ) → length w ≡ 8 → i < 7 → closed w i ≡ o → closed (set w i (get_or w (i + 1) 0)) (i + 1) ≡ o

@@ -2,8 +2,7 @@
 ghost use Rattle.std.specs.Prelude.{◌≡◌, take, set};
 ghost use Rattle.book.specs.Waiting.{place_of, closed};
 
-// Where an identifier stands among the first n. The engine asks through `Seen` (turn, `moves::find`); this stays, since docs/PROMISES.md names it, for any
-// list and any n, and so does `with_one`.
+// Where an identifier stands among the first n. Any list and any n.
 pub fn find(w: [u16; 8], n: usize, id: u16) -> Option<usize>
     ensures { result ≡ place_of id 0 (take n w) }
 {
@@ -11,13 +10,15 @@ pub fn find(w: [u16; 8], n: usize, id: u16) -> Option<usize>
 }
 
 // One place removed and the rest closed up.
-#[tactic(auto, using(crate::proofs::WaitingLaws::closed_up), unfolding(book::specs::Waiting::closed))]
 pub fn without(w: [u16; 8], at: usize) -> [u16; 8]
     ensures { result ≡ closed w at }
 {
     let mut v = w;
     if at < 8 {
-        v.copy_within(at + 1.., at);
+        // Place by place, and no `copy_within`: that is a call of `memmove`, which a program in C would have to bring.
+        for i in at..7 {
+            v[i] = v[i + 1];
+        }
         v[7] = 0;
     }
     v

@@ -81,5 +81,5 @@ pub(crate) fn put_kept(image: &mut [u8; 618], frame: &[u8])
     requires { length frame.now ≤ 554 }
     ensures { unit_of image.new ≡ with_kept (unit_of image.old) (sets (unit_of image.old).kept 0 frame.now) }
 {
-    image[48..48 + frame.len()].copy_from_slice(frame);
+    octets::put(image, 48, frame);
 }
