@@ -1,6 +1,7 @@
 // The field writers. Each is lent the rest of the buffer, puts its field at the front, and answers how many octets that took.
 ghost use Rattle.std.specs.Prelude.{◌≡◌, false, ◌≤◌, length};
 ghost use Rattle.std.specs.Option.{option_copied};
+ghost use Rattle.std.proofs.lemmas.List.Edits.{sets};
 ghost use Rattle.octets.specs.Put.{Put};
 ghost use Rattle.frame.specs.Encoding.{type_octets, number_octets, sender_octets, data_octets, first_octet, encode};
 ghost use Rattle.frame.specs.Writing.{message_of, PutField, Room, wrong_sender, wrong_data, refusal_of, check_of};
@@ -10,13 +11,24 @@ use crate::{Fault, Parts, Refusal, reader};
 // A type and a number have a writer each. One for both, over `Option<[u8; N]>`, has its callers make the arrays by `map`, and is no plainer; nor is one
 // for sender and data, whose lengths take one octet and two.
 
+// A few octets at the front: where they find room they are stored at once, with no loop over them.
+fn put_few<const N: usize>(few: [u8; N], out: &mut [u8])
+    ensures { out.new ≡ sets out.old 0 few.entry }
+{
+    if N <= out.len() {
+        out[..N].copy_from_slice(&few);
+    } else {
+        octets::put(out, 0, &few);
+    }
+}
+
 fn put_type(message_type: Option<u8>, out: &mut [u8]) -> usize
     ensures { PutField (type_octets message_type) 1 out.old out.new result }
 {
     let Some(x) = message_type else {
         return 0;
     };
-    octets::put(out, 0, &[x]);
+    put_few([x], out);
     1
 }
 
@@ -26,7 +38,7 @@ fn put_number(number: Option<u16>, out: &mut [u8]) -> usize
     let Some(n) = number else {
         return 0;
     };
-    octets::put(out, 0, &n.to_be_bytes());
+    put_few(n.to_be_bytes(), out);
     2
 }
 
@@ -37,7 +49,7 @@ fn put_sender(sender: Option<&[u8]>, out: &mut [u8]) -> usize
     let Some(sender) = sender else {
         return 0;
     };
-    octets::put(out, 0, &[sender.len() as u8]);
+    put_few([sender.len() as u8], out);
     octets::put(out, 1, sender);
     1 + sender.len()
 }
@@ -49,7 +61,7 @@ fn put_data(data: Option<&[u8]>, out: &mut [u8]) -> usize
     let Some(data) = data else {
         return 0;
     };
-    octets::put(out, 0, &(data.len() as u16).to_be_bytes());
+    put_few((data.len() as u16).to_be_bytes(), out);
     octets::put(out, 2, data);
     2 + data.len()
 }
@@ -72,7 +84,7 @@ pub(crate) fn put_all(parts: Parts, out: &mut [u8]) -> usize
     requires { Room (message_of parts) out.old }
     ensures { Put out.old 0 (encode (message_of parts.entry)) out.new result }
 {
-    octets::put(out, 0, &[flags(parts), parts.confirmation]);
+    put_few([flags(parts), parts.confirmation], out);
     let at1 = 2 + put_type(parts.message_type, &mut out[2..]);
     let at2 = at1 + put_number(parts.identifier, &mut out[at1..]);
     let at3 = at2 + put_number(parts.reference, &mut out[at2..]);

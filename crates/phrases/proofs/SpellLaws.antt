@@ -1,10 +1,11 @@
 -- Laws of spelling: a number's digits, and octets as they are shown. Closed by `rw` with the tests.
-use Prim.Native.Nat.{ℕ, zero, suc, ◌+◌, ◌-◌, ◌*◌, ◌/◌, ◌<◌, ◌≤◌}
-use mathlib.Core.Path.{◌≡◌, refl}
-use mathlib.Core.Bool.{true, false}
+use Prim.Native.Nat.{ℕ, ◌+◌, ◌*◌, ◌/◌, ◌<◌, ◌≤◌}
+use mathlib.Core.Path.{◌≡◌, refl, sym}
+use mathlib.Core.Bool.{Bool, true, false}
 use mathlib.Core.List.{List, [], ◌∷◌, ◌++◌, append-nil}
 use native.Mathlib.Omega.{arith}
-use borrow.Author.Tests.{le-ltb, lt-ltb}
+use borrow.Author.Tests.{le-ltb, lt-ltb, ltb-true, ltb-false}
+use lib.Dec.{ltb}
 use lib.ListN.{length, take}
 use lib.Seq.{sets}
 use Rattle.std.proofs.lemmas.List.{take_min}
@@ -13,30 +14,41 @@ use Rattle.std.specs.Prelude.{min}
 use Rattle.octets.specs.Put.{Put}
 use Rattle.text.specs.Printing.{digits_of}
 use Rattle.text.proofs.PrintLaws.{digits_long}
-use Rattle.phrases.specs.Spelling.{spelled, digit, decimal_in, printable, quote, shown, beginning}
+use Rattle.phrases.specs.Spelling.{spelled, digit, digit_at, decimal_in, decimal, printable, quote, shown, beginning}
 
 -- ---- numbers
 
-module _ (k n : ℕ) where
-  pub digits_more : 0 < k → 10 ≤ n → decimal_in (k - 1) (n / 10) ++ (digit n ∷ []) ≡ decimal_in k n
-  unfolding decimal_in
-  digits_more = more k
-    where
-      more : (j : ℕ) → 0 < j → 10 ≤ n → decimal_in (j - 1) (n / 10) ++ (digit n ∷ []) ≡ decimal_in j n
-      more zero h l = absurd (omega arith)
-      more (suc j) h l = let e : suc j - 1 ≡ j = omega arith in rw (le-ltb n 10 l, e)
-
-  pub digits_none : k ≤ 0 → digit n ∷ [] ≡ decimal_in k n
-  unfolding decimal_in
-  digits_none h = let e : k ≡ 0 = omega arith in rw e
-
-  pub digits_few : n < 10 → digit n ∷ [] ≡ decimal_in k n
-  unfolding decimal_in
-  digits_few = few k
-    where
-      few : (j : ℕ) → n < 10 → digit n ∷ [] ≡ decimal_in j n
-      few zero h = refl
-      few (suc j) h = rw (lt-ltb n 10 h)
+-- the digits of the powers of ten, one after the other
+pub number_said : (n : ℕ) → digit_at n 10000 ++ digit_at n 1000 ++ digit_at n 100 ++ digit_at n 10 ++ (digit n ∷ []) ≡ decimal n
+unfolding decimal_in
+number_said n = go (ltb n 10) refl (ltb n 100) refl (ltb n 1000) refl (ltb n 10000) refl
+  where
+    go : (a : Bool) → a ≡ ltb n 10 → (b : Bool) → b ≡ ltb n 100 → (c : Bool) → c ≡ ltb n 1000 → (d : Bool) → d ≡ ltb n 10000
+        → digit_at n 10000 ++ digit_at n 1000 ++ digit_at n 100 ++ digit_at n 10 ++ (digit n ∷ []) ≡ decimal n
+    go true e b f c g d h =
+        let l = ltb-true n 10 (sym e) in
+        rw (lt-ltb n 10 l, lt-ltb n 100 (omega arith), lt-ltb n 1000 (omega arith), lt-ltb n 10000 (omega arith))
+    go false e true f c g d h =
+        let k = ltb-false n 10 (sym e) in
+        let l = ltb-true n 100 (sym f) in
+        rw (le-ltb n 10 k, lt-ltb n 100 l, lt-ltb n 1000 (omega arith), lt-ltb n 10000 (omega arith), lt-ltb (n / 10) 10 (omega arith))
+    go false e false f true g d h =
+        let k = ltb-false n 100 (sym f) in
+        let l = ltb-true n 1000 (sym g) in
+        let p : n / 10 / 10 ≡ n / 100 = omega arith in
+        rw (le-ltb n 10 (omega arith), le-ltb n 100 k, lt-ltb n 1000 l, lt-ltb n 10000 (omega arith), le-ltb (n / 10) 10 (omega arith), p, lt-ltb (n / 100) 10 (omega arith))
+    go false e false f false g true h =
+        let k = ltb-false n 1000 (sym g) in
+        let l = ltb-true n 10000 (sym h) in
+        let p : n / 10 / 10 ≡ n / 100 = omega arith in
+        let q : n / 100 / 10 ≡ n / 1000 = omega arith in
+        rw (le-ltb n 10 (omega arith), le-ltb n 100 (omega arith), le-ltb n 1000 k, lt-ltb n 10000 l, le-ltb (n / 10) 10 (omega arith), p, le-ltb (n / 100) 10 (omega arith), q, lt-ltb (n / 1000) 10 (omega arith))
+    go false e false f false g false h =
+        let k = ltb-false n 10000 (sym h) in
+        let p : n / 10 / 10 ≡ n / 100 = omega arith in
+        let q : n / 100 / 10 ≡ n / 1000 = omega arith in
+        let r : n / 1000 / 10 ≡ n / 10000 = omega arith in
+        rw (le-ltb n 10 (omega arith), le-ltb n 100 (omega arith), le-ltb n 1000 (omega arith), le-ltb n 10000 k, le-ltb (n / 10) 10 (omega arith), p, le-ltb (n / 100) 10 (omega arith), q, le-ltb (n / 1000) 10 (omega arith), r)
 
 -- ---- octets
 

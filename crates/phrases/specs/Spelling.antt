@@ -16,6 +16,10 @@ spelled (c then s) = code c ∷ spelled s
 abbrev pub digit : ℕ → ℕ
 digit n = 48 + n % 10
 
+-- the digit of a power of ten, where the number has it
+abbrev pub digit_at : (n power : ℕ) → List ℕ
+digit_at n power = pick (ltb n power) [] (digit (n / power) ∷ [])
+
 -- a number in decimal, with at most so many digits more than one
 unfoldable pub decimal_in : (more : ℕ) → ℕ → List ℕ
 decimal_in zero n = digit n ∷ []

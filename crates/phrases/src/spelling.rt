@@ -1,8 +1,8 @@
 // A page, and the words, numbers and octets that are written on it.
-ghost use Rattle.std.specs.Prelude.{◌≡◌, ◌≤◌, ◌+◌, length};
+ghost use Rattle.std.specs.Prelude.{◌≡◌, ◌≤◌, ◌<◌, ◌+◌, length};
 ghost use Rattle.std.specs.List.{list_all};
 ghost use Rattle.phrases.specs.Page.{Room, Writes};
-ghost use Rattle.phrases.specs.Spelling.{decimal_in, decimal, printable, shown, beginning};
+ghost use Rattle.phrases.specs.Spelling.{digit, digit_at, decimal, printable, shown, beginning};
 
 // A lent buffer, and the place up to which it is written.
 #[derive(Drop)]
@@ -12,24 +12,25 @@ pub struct Page<'a> {
 }
 
 impl Page<'_> {
-    // The octets of a word.
+    // The octets of a word. Here the room is known, and no archive for C is made of it, so it is a slice's own copy: `octets::put`, which asks for the room and
+    // goes octet by octet, costs a line an eighth to a half more instructions.
     pub fn say(&mut self, word: &[u8])
         requires { Room self.old (length word.now) }
         ensures { Writes self.old word.now (length word.now) self.new }
     {
-        octets::put(self.out, self.at, word);
+        self.out[self.at..self.at + word.len()].copy_from_slice(word);
         self.at += word.len();
     }
 
-    // The last digits of a number, at most so many more than one.
-    fn digits(&mut self, more: usize, n: usize)
-        requires { Room self.old (more + 1) }
-        ensures { Writes self.old (decimal_in more n) (more + 1) self.new }
+    // The digit of a power of ten, where the number has it.
+    fn digit(&mut self, n: usize, power: usize)
+        requires power { 0 < power }
+        requires room { Room self.old 1 }
+        ensures { Writes self.old (digit_at n power) 1 self.new }
     {
-        if 0 < more && 10 <= n {
-            self.digits(more - 1, n / 10);
+        if power <= n {
+            self.say(&[last_digit(n / power)]);
         }
-        self.say(&[b'0' + (n % 10) as u8]);
     }
 
     // A number in decimal.
@@ -37,7 +38,11 @@ impl Page<'_> {
         requires { Room self.old 5 }
         ensures { Writes self.old (decimal n) 5 self.new }
     {
-        self.digits(4, n);
+        self.digit(n, 10_000);
+        self.digit(n, 1_000);
+        self.digit(n, 100);
+        self.digit(n, 10);
+        self.say(&[last_digit(n)]);
     }
 
     // Octets as text in quotes where each is printable, else in hexadecimal.
@@ -65,6 +70,13 @@ impl Page<'_> {
             self.say(b" ...");
         }
     }
+}
+
+// The last decimal digit of a number.
+fn last_digit(n: usize) -> u8
+    ensures { result ≡ digit n }
+{
+    b'0' + (n % 10) as u8
 }
 
 // Whether a character is shown as it is.

@@ -1,6 +1,5 @@
 -- Laws of the line at the front of the input, as the code finds it; and of the input's end. Closed by the tests of a line.
-use Rattle.std.specs.Prelude.{None, Option, Some, ◌&&◌}
-use Rattle.std.specs.Cmp.Lexicographic.{pointwise}
+use Rattle.std.specs.Prelude.{None, Option, Some}
 use Rattle.std.specs.Option.{option_map}
 use Rattle.std.specs.Borrow.{Bor}
 use Prim.Native.Nat.{ℕ, suc, ◌+◌, ◌<◌, ◌≤◌}
@@ -127,15 +126,21 @@ module _ (i : List ℕ) where
             (record { state_is = t.state_is; taken = omega (arith, t.taken, k.feed); put = rw (framed_words b) t.put; small = t.small })
         go p (waits f g) = let k = cut b in unended (omega (arith, k.feed, k.size)) refl g
 
--- the word as std looks for it
-pub begins_is : (w s : List ℕ) → pointwise eqb (take (length w) s) w ≡ begins w s
-begins_is [] s = refl
-begins_is (c ∷ w) [] = refl
-begins_is (c ∷ w) (d ∷ s) = go (eqb d c) (begins_is w s)
-  where
-    go : (x : Bool) → pointwise eqb (take (length w) s) w ≡ begins w s → x && pointwise eqb (take (length w) s) w ≡ both x (begins w s)
-    go true e = e
-    go false e = refl
+-- the word as the code looks for it
+module _ (i : List ℕ) {r : Option (Bor (List ℕ))} (e : held_in r ≡ pick (begins frame_word i) (Some (drop 6 i)) None) where
+  pub bare_some : {d : Bor (List ℕ)} → r ≡ Some d → (begins frame_word i ≡ true) × (d.now ≡ drop 6 i)
+  bare_some {d} q = go (begins frame_word i) (sym (ap held_in q) ∙ e)
+    where
+      go : (b : Bool) → Some d.now ≡ pick b (Some (drop 6 i)) None → (b ≡ true) × (d.now ≡ drop 6 i)
+      go true h = (refl, cc)
+      go false h = let z : ◌≡◌ {A = ℕ} 0 1 = cc in absurd (omega arith)
+
+  pub bare_none : r ≡ None → begins frame_word i ≡ false
+  bare_none q = go (begins frame_word i) (sym (ap held_in q) ∙ e)
+    where
+      go : (b : Bool) → None ≡ pick b (Some (drop 6 i)) None → b ≡ false
+      go true h = let z : ◌≡◌ {A = ℕ} 0 1 = cc in absurd (omega arith)
+      go false h = refl
 
 -- ---- the input's end
 

@@ -2,11 +2,12 @@
 // specs/Lines and in crate `phrases`. The lines are heard one after the other by text's reader; here is what is said of each.
 #![tactic(auto)]
 
-ghost use Rattle.std.specs.Prelude.{◌≡◌, ◌≤◌, ◌+◌, Bool, length, ◌<◌, ◌^◌};
+ghost use Rattle.std.specs.Prelude.{◌≡◌, ◌≤◌, ◌+◌, Bool, length, drop, Some, None, ◌<◌, ◌^◌};
+ghost use Rattle.octets.specs.Choice.{pick};
 ghost use Rattle.octets.specs.Put.{Put};
 ghost use Rattle.text.specs.Reading.{held_in};
 ghost use Rattle.phrases.specs.Page.{Room, Writes};
-ghost use Rattle.words.specs.Lines.{words_of};
+ghost use Rattle.words.specs.Lines.{words_of, begins, frame_word};
 ghost use Rattle.words.specs.Feeding.{margin, line_text, standing, indented_of, fresh, longest, answer, most, Feeds, finishing};
 ghost use Rattle.words.specs.Taking.{Explains, Digits};
 
@@ -32,7 +33,9 @@ pub type Reader = hearing::Reader<Explainer>;
 // The reader after a part of its input, how many characters of it were taken, and how many were written.
 pub type Fed = hearing::Fed<Reader>;
 
-// The words for a line's octets, which are a bare frame or not; or that it has none.
+// The words for a line's octets, which are a bare frame or not; or that it has none. Inlined, as `say`, `explain` and `digits` are: called, each costs an empty
+// line a quarter of its instructions or more.
+#[inline(always)]
 fn words(page: &mut Page, framed: bool, octets: Option<&[u8]>)
     requires { Room page.old 420 }
     ensures { Writes page.old (words_of framed (held_in octets.entry)) 420 page.new }
@@ -49,6 +52,17 @@ fn words(page: &mut Page, framed: bool, octets: Option<&[u8]>)
     }
 }
 
+// The digits behind the word for a bare frame, where the input begins with it. Letter by letter, so that most lines are known by their first: `strip_prefix`
+// reads all six of each line.
+fn bare(input: &[u8]) -> Option<&[u8]>
+    ensures { held_in result ≡ pick (begins frame_word input.now) (Some (drop 6 input.now)) None }
+{
+    match input {
+        [b'f', b'r', b'a', b'm', b'e', b' ', digits @ ..] => Some(digits),
+        _ => None,
+    }
+}
+
 impl Explainer {
     // Two spaces, where lines are indented.
     fn margin(self, page: &mut Page)
@@ -61,6 +75,7 @@ impl Explainer {
     }
 
     // What is said of a line's octets, on a line of its own.
+    #[inline(always)]
     fn say(self, page: &mut Page, framed: bool, octets: Option<&[u8]>)
         requires { Room page.old most }
         ensures { Writes page.old (line_text self.indented (words_of framed (held_in octets.entry))) most page.new }
@@ -71,6 +86,7 @@ impl Explainer {
     }
 
     // The same from a place of the output on; the next line of the input starts at `next`.
+    #[inline(always)]
     fn explain(
         self,
         framed: bool,
@@ -92,6 +108,7 @@ impl Explainer {
     }
 
     // Digits that begin n characters behind the front of their line.
+    #[inline(always)]
     fn digits(
         self,
         framed: bool,
@@ -138,7 +155,7 @@ impl Hearer for Explainer {
         out: &mut [u8],
         at: usize,
     ) -> Option<hearing::Fed<Explainer>> {
-        match input.strip_prefix(b"frame ") {
+        match bare(input) {
             Some(digits) => self.digits(true, 6, digits, desk, out, at),
             None => self.digits(false, 0, input, desk, out, at),
         }

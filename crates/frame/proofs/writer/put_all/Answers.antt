@@ -8,7 +8,7 @@ use Rattle.frame.proofs.writer.put_all.Goals as goal
 
 pub returns : goal.returns
 returns c =
-    let g₀ : Put c.args.out.now 0 (c.flags.result ∷ c.args.parts.confirmation ∷ []) c.put.new.out 2 = record { held = c.put.ensures; place = refl } in
+    let g₀ : Put c.args.out.now 0 (c.flags.result ∷ c.args.parts.confirmation ∷ []) c.put_few.new.out 2 = record { held = c.put_few.ensures; place = refl } in
     let g₁ = grow g₀ c.put_type-at1.ensures.put in
     let g₂ = grow g₁ c.put_number.ensures.put in
     let g₃ = grow g₂ c.put_number-2.ensures.put in
