@@ -1,29 +1,37 @@
 -- The writer: what its tests make sure of, its answer; octet 0, and the whole frame.
-use Rattle.std.specs.Prelude.{None, Option, Some, Result, Ok}
+use Rattle.std.specs.Prelude.{None, Option, Some, Result, Ok, Err}
 use Rattle.std.specs.Option.{option_copied}
 use Rattle.std.specs.Bool.{⊤}
 use Prim.Native.Nat.{ℕ, ◌+◌, ◌*◌, ◌<◌, ◌≤◌}
 use native.Mathlib.Omega.{arith}
 use mathlib.Core.List.{List, [], ◌∷◌, ◌++◌, append-nil}
 use mathlib.Core.Bool.{Bool, true, false}
-use mathlib.Core.Path.{◌≡◌, refl, sym, ◌∙◌}
+use mathlib.Core.Path.{◌≡◌, refl, sym, ap, ◌∙◌}
 use lib.ListN.{length}
 use lib.Dec.{ltb, eqb}
 use denote.Ref.{Bor}
 use mir.Val.{bool_byte}
-use borrow.Author.Tests.{le-ltb, ltb-false, eqb-false}
+use borrow.Author.Tests.{le-ltb, lt-ltb, ltb-false, eqb-false}
 use Rattle.octets.specs.Choice.{pick, either}
 use Rattle.octets.specs.Put.{Put}
 use Rattle.octets.proofs.Puts as Puts
 use Rattle.frame.specs.Message.{Message, present, lacks}
 use Rattle.frame.specs.Encoding.{weight, first_octet, type_octets, number_octets, sender_octets, data_octets, frame_of, encode}
-use Rattle.frame.specs.Writing.{message_of, wrong_sender, wrong_data, fault_in, Allowed, refusal_of, check_of, Room}
+use Rattle.frame.specs.Writing.{message_of, wrong_sender, wrong_data, fault_in, Allowed, refusal_of, check_of, Wrote, Room}
 use Rattle.frame.specs.declared.Fault.TheVariants.{BadOctet, BadLength, Lacking}
 use Rattle.frame.specs.declared.Parts.{Parts}
 use Rattle.frame.specs.declared.Refusal.{Refusal}
 use Rattle.frame.specs.declared.Refusal.TheVariants.{NoRoom, Faulty}
 
--- ---- what the tests make sure of
+-- ---- the tests: one way out
+
+-- where the room is enough, a confirmation above 4 is the first fault, 13 (named by docs/PORT.md)
+module _ (p : Parts) (room : ℕ) (h : 1024 ≤ room) where
+  pub fails_confirmation : 4 < p.confirmation → Err (Faulty BadOctet) ≡ check_of (refusal_of room (message_of p))
+  unfolding refusal_of fault_in
+  fails_confirmation g = simp (le-ltb room 1024 h, lt-ltb 4 p.confirmation g)
+
+-- ---- what they make sure of
 
 false_true : false ≡ true → ⊥
 false_true e = let z : ◌≡◌ {A = ℕ} 0 1 = cc in omega arith
@@ -106,12 +114,20 @@ check_fits : (o : Option Refusal) (u : ⊤) → check_of o ≡ Ok u → o ≡ No
 check_fits None u e = refl
 check_fits (Some r) u e = let n : ◌≡◌ {A = ℕ} 0 1 = cc in absurd (omega arith)
 
+check_fails : (o : Option Refusal) (r : Refusal) → check_of o ≡ Err r → o ≡ Some r
+check_fails None r e = let n : ◌≡◌ {A = ℕ} 0 1 = cc in absurd (omega arith)
+check_fails (Some x) r e = ap Some (cc)
+
 module _ (m : Message) (b : List ℕ) (k : Result ⊤ Refusal) (q : k ≡ check_of (refusal_of (length b) m)) where
   pub fits_room : {u : ⊤} → k ≡ Ok u → Room m b
   fits_room {u} e =
       let w = refused_none (length b) m (check_fits (refusal_of (length b) m) u (sym q ∙ e)) in
       let v = sound m w.1 in
       record { room = w.0; sender_fits = sender_33 m.sender v.sender_right; data_fits = data_514 m.user_data v.data_right }
+
+  -- a call that refuses leaves the whole buffer as it was (named by docs/PORT.md)
+  pub wrote_not : (r : Refusal) → k ≡ Err r → Wrote (refusal_of (length b) m) (encode m) b b (Err r)
+  wrote_not r e = rw (check_fails (refusal_of (length b) m) r (sym q ∙ e)) (record { answers = refl; leaves = refl })
 
 -- ---- the whole
 

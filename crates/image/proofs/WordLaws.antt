@@ -63,6 +63,12 @@ octets_more n =
     let e : 8 * suc n ≡ 8 + 8 * n = omega arith in
     ap (λ k. 2 ^ k) e ∙ pow-add 2 8 (8 * n)
 
+-- the last power for places of a word: below 8 and none of 0 to 6, so 7 octets (named by docs/PORT.md)
+pub power_7 : (n : ℕ) → n < 8 → (n ≡ 0 → ⊥) → (n ≡ 1 → ⊥) → (n ≡ 2 → ⊥) → (n ≡ 3 → ⊥) → (n ≡ 4 → ⊥) → (n ≡ 5 → ⊥) → (n ≡ 6 → ⊥) → 72057594037927936 ≡ 2 ^ (8 * n)
+power_7 n h z0 z1 z2 z3 z4 z5 z6 =
+    let e : 7 ≡ n = omega arith in
+    ap (λ k. 2 ^ (8 * k)) e
+
 -- the number shifted by n octets is that of the octets from the place n on
 shifted : (n : ℕ) (s : List ℕ) → ((j : ℕ) → get_or s j 0 < 256) → number s / 2 ^ (8 * n) ≡ number (drop n s)
 shifted zero s h = div-one (number s)

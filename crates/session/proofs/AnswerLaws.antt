@@ -29,8 +29,8 @@ use Rattle.image.specs.Answer.{Handled, SetsUp}
 use Rattle.image_laws.proofs.GoesOn as GoesOn
 use Rattle.image_laws.proofs.GoesOn.{set_verdict, set_unit}
 use Rattle.room_laws.proofs.Room.{room}
-use Rattle.session.specs.Listing.{Answer, text, two, no_setup, setup_in, first_turn, refusal_line, state_line, begun, answer_to, listed}
-use Rattle.session.specs.Feeding.{most, last_line}
+use Rattle.session.specs.Listing.{Answer, text, two, no_setup, setup_in, first_turn, refusal_line, state_line, begun, outcome_lines, gone_on, answer_to, listed}
+use Rattle.session.specs.Feeding.{state_of, said, most, last_line}
 use Rattle.session.specs.Walking.{Begins, Lays, Says, stated, verdict_lines}
 use Rattle.session.specs.declared.answers.Said.{Said}
 use Rattle.session.specs.declared.Phase.{Phase}
@@ -38,6 +38,9 @@ use Rattle.session.specs.declared.Phase.TheVariants.{First, Running, Stopped}
 use Rattle.std.specs.Option.{unwrap_or}
 use Rattle.std.specs.Borrow.{Bor}
 use Rattle.text.specs.Reading.{held_in}
+use Rattle.text.specs.Hearing.{heard, Takes}
+use Rattle.text.specs.declared.hearing.Fed.{Fed}
+use Rattle.text.specs.declared.hearing.Reader.{Reader}
 use Rattle.session.proofs.WalkLaws.{shows, text_one, text-append, print_put, printed_long}
 
 -- ---- room
@@ -76,15 +79,19 @@ setup_short s h = rw (drop_of_length-le s {i = 7} (omega arith), no_name (ltb 0 
     go true = refl
     go false = refl
 
+-- the kind of a line that has one is its first octet, whatever would stand for it in an empty line (named by docs/PORT.md)
+kind_of_lem : (s : List ℕ) → 7 ≤ length s → get_or s 0 1 ≡ get_or s 0 0
+kind_of_lem s h = get_or_default s 0 1 0 (omega arith)
+
 setup_as : (s : List ℕ) (a b c : ℕ) → 7 ≤ length s → get_or s 0 0 ≡ 0 → a ≡ two s 1 → b ≡ two s 3 → c ≡ two s 5
     → set_up a b c (take (length s - 7) (drop 7 s)) ≡ setup_in s
 unfolding setup_in
 setup_as s a b c h k x y z =
-    rw (get_or_default s 0 1 0 (omega arith), k, take_rest s 7, x, y, z)
+    rw (kind_of_lem s h, k, take_rest s 7, x, y, z)
 
 pub setup_other : (s : List ℕ) → 7 ≤ length s → (get_or s 0 0 ≡ 0 → ⊥) → no_setup ≡ setup_in s
 unfolding setup_in
-setup_other s h k = rw (get_or_default s 0 1 0 (omega arith), ne_eqb (get_or s 0 0) 0 k)
+setup_other s h k = rw (kind_of_lem s h, ne_eqb (get_or s 0 0) 0 k)
 
 -- a line that is no event is none, as an empty one
 setup_from : (e : Option (Bor (List ℕ))) (d : Bor (List ℕ)) → d.now ≡ [] → setup_in (unwrap_or e d).now ≡ first_turn (held_in e)
@@ -142,6 +149,18 @@ says_on {image = image} ls p h t = record {
   put = shown_then ls (state_line (unit_of image) ∷ []) p t.put;
   small = omega (arith, t.put.place, state_long (unit_of image));
 }
+
+-- a line's answer, then the state, where a line of the input is taken (named by docs/PORT.md)
+module _ {out mid after image : List ℕ} {at place : ℕ} {r : Fed (Reader Phase)} where
+  pub goes_on : (u : Value) (n : ℕ) (o : Outcome) (ls : List (List ℕ)) → ls ≡ outcome_lines o → unit_of image ≡ (turn_of u o).unit
+      → Put out at (text ls) mid place → place ≤ at + 2048 → Takes state_of (heard n (said (stated (unit_of image) []))) most mid place image after r
+      → Takes state_of (heard n (said (gone_on u o))) most out at image after r
+  goes_on u n o ls e f p h t = record {
+    reader = t.reader ∙ ap (λ x. record { state = record { unit = x; phase = Running }; passing = false }) f;
+    taken = t.taken;
+    put = shown_then (outcome_lines o) (state_line (turn_of u o).unit ∷ []) (rw e at p) (rw f at t.put);
+    small = omega (arith, t.put.place, state_long (unit_of image));
+  }
 
 -- a unit's turn at an event
 pub handled : (image ev before : List ℕ) {image' after : List ℕ} {r : Result Done Refusal} → length image ≡ 618 → ((i : ℕ) → octet image i < 256)

@@ -1,11 +1,16 @@
 -- The waiting list by its places: whether an identifier stands among some of them, and whether one stands there twice.
-use Rattle.std.proofs.Common.{ℕ, zero, suc, ◌+◌, ◌-◌, ◌<◌, ◌≤◌, ◌≡◌, refl, ap, sym, ◌∙◌, Bool, true, false, List, [], ◌∷◌, ◌||◌, length, take, get_or, arith, drop-cons}
+use Rattle.std.proofs.Common.{ℕ, zero, suc, ◌+◌, ◌-◌, ◌<◌, ◌≤◌, ◌≡◌, refl, ap, sym, ◌∙◌, Bool, true, false, List, [], ◌∷◌, ◌||◌, length, take, drop, get_or, arith, drop-cons}
 use borrow.Author.Tests.{eq-eqb, ne_eqb, eqb-true, eqb-false}
 use lib.Dec.{eqb}
+use lib.ListN.{drop_of_length-le}
 use Rattle.std.specs.List.{list_any, range_with_len, slice_range}
 use Rattle.octets.specs.Choice.{either}
 use Rattle.book.specs.Sound.{differ}
 use Rattle.book.specs.Book.{waits}
+
+-- at a list's end nothing is left: what is said of the rest is said of the empty list (named by docs/PORT.md)
+pub at_end_lem : {B : Type 0} (f : List ℕ → B) (s : List ℕ) (i : ℕ) → length s ≤ i → f (drop i s) ≡ f []
+at_end_lem f s i h = rw (drop_of_length-le s {i = i} h)
 
 swapped : (a b : ℕ) → eqb a b ≡ eqb b a
 swapped a b = go (eqb b a) refl
