@@ -57,7 +57,7 @@ fn on_note<H: Held>(u: &mut H, m: &Message, out: &mut [u8; ROOM]) -> Verdict
 {
     let pen = lines::put_seen(out, m);
     let reference = m.reference();
-    let found = moves::find(u, reference);
+    let found = u.find(reference);
     moves::rest(u);
     let Some(place) = found else {
         return lines::finished(pen);

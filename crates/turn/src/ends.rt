@@ -15,7 +15,6 @@ use crate::held::Held;
 use crate::{ROOM, lines, moves};
 use book::{Refusal, Verdict};
 use said::{Pen, Say};
-use state::sound;
 
 // Every waiting identifier answered uncertain.
 pub(crate) fn put_uncertain<H: Held>(out: &mut [u8; ROOM], pen: Pen, u: &H) -> Pen
@@ -93,7 +92,7 @@ pub(crate) fn on_tick<H: Held>(u: &mut H, out: &mut [u8; ROOM]) -> Verdict
     if s == 0 {
         return lines::finished(lines::START);
     }
-    let limit = sound::limit_of(u);
+    let limit = u.limit();
     let e = u.elapsed() + 1;
     if e < limit {
         u.at_elapsed(s, e);

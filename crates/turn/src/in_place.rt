@@ -48,6 +48,18 @@ fn rest_of(start: u16, end: u16, inactivity: u16, letters: u8) -> [u8; 16]
 }
 
 impl Held for [u8; 618] {
+    fn is_sound(&self) -> bool {
+        image_sound::sound(self)
+    }
+
+    fn limit(&self) -> u16 {
+        image::limit(self)
+    }
+
+    fn find(&self, id: u16) -> Option<usize> {
+        (0..self.count()).position(|i| id == self.id(i))
+    }
+
     fn make(&mut self, start: u16, end: u16, inactivity: u16, name: [u8; 32], letters: usize) {
         let rest = rest_of(start, end, inactivity, letters as u8);
         octets::put(self, 0, &name);

@@ -57,7 +57,7 @@ pub fn handle<H: Held>(u: &mut H, event: &[u8], out: &mut [u8]) -> Verdict
     let Some(lines) = out.first_chunk_mut::<ROOM>() else {
         return Err(Refusal::NoRoom);
     };
-    if !sound::sound(u) {
+    if !u.is_sound() {
         return Err(Refusal::Unsound);
     }
     act(u, event, lines)

@@ -1,8 +1,6 @@
 // What an event asks of a unit, and the move that needs no form of its own.
-ghost use Rattle.std.specs.Prelude.{◌≡◌, take};
-ghost use Rattle.book.specs.Ready.{Ready};
+ghost use Rattle.std.specs.Prelude.{◌≡◌};
 ghost use Rattle.book.specs.Turns.{takes};
-ghost use Rattle.book.specs.Waiting.{place_of};
 ghost use Rattle.turn_laws.specs.Moves.{rested};
 ghost use Rattle.turn.specs.Columns.{number_of};
 
@@ -25,12 +23,4 @@ pub(crate) fn takes<H: Seen>(u: &H, column: Column) -> bool
     ensures { result ≡ takes (H.unit u.now).state (number_of column) }
 {
     turns::taken(usize::from(u.state()), column as usize)
-}
-
-// Where an identifier waits.
-pub(crate) fn find<H: Seen>(u: &H, id: u16) -> Option<usize>
-    requires { Ready (H.unit u.now) }
-    ensures { result ≡ place_of id 0 (take (H.unit u.now).count (H.unit u.now).waiting) }
-{
-    (0..u.count()).position(|i| id == u.id(i))
 }

@@ -78,7 +78,7 @@ fn on_next_sure<H: Held>(u: &mut H, r: &Request, out: &mut [u8; ROOM]) -> Verdic
     ensures { Acted (H.unit u.old) (on_multi (bar r.now.terms (msg_at r.now.message.frame.now r.now.message.header) (state_of (H.unit u.old))) r.now.terms (msg_at r.now.message.frame.now r.now.message.header) (state_of (H.unit u.old))) out.old result (H.unit u.new) out.new }
 {
     let id = r.message.identifier();
-    if moves::find(u, id).is_some() {
+    if u.find(id).is_some() {
         return Err(Refusal::Waits);
     }
     if 8 <= u.count() {

@@ -1,7 +1,7 @@
 // The moves of a unit that is held by value.
 use crate::held::{Held, NO_TERMS};
 use book::{Terms, Unit};
-use state::waiting;
+use state::{sound, waiting};
 
 // A unit with every number 0.
 pub const BLANK: Unit = Unit {
@@ -21,6 +21,18 @@ pub const BLANK: Unit = Unit {
 
 #[tactic(auto, unfolding(turn_laws::specs::Moves::advanced, turn_laws::specs::Moves::entered, turn_laws::specs::Moves::cleared, turn_laws::specs::Moves::waiting_with))]
 impl Held for Unit {
+    fn is_sound(&self) -> bool {
+        sound::sound(self)
+    }
+
+    fn limit(&self) -> u16 {
+        sound::limit_of(self)
+    }
+
+    fn find(&self, id: u16) -> Option<usize> {
+        waiting::find(self.waiting, self.count, id)
+    }
+
     fn make(&mut self, start: u16, end: u16, inactivity: u16, name: [u8; 32], letters: usize) {
         *self = Unit {
             name,
@@ -57,7 +69,7 @@ impl Held for Unit {
     }
 
     fn append(&mut self, id: u16) {
-        self.waiting[self.count] = id;
+        self.waiting = waiting::with_one(self.waiting, self.count, id);
         self.count += 1;
     }
 
