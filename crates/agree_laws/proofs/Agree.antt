@@ -1,4 +1,4 @@
--- THE TWO ENGINES AGREE: on the image of any unit, sound or not, the contract over an image leaves the verdict, the buffer and the image of the unit that
+-- BY VALUE AND IN PLACE AGREE: on the image of any unit, sound or not, the contract over an image leaves the verdict, the buffer and the image of the unit that
 -- the contract by value leaves. Closed by: the unit that the image stands for is that unit, or both are unsound.
 use Rattle.std.specs.Prelude.{Result}
 use Prim.Native.Nat.{ℕ, ◌+◌, ◌/◌, ◌%◌, ◌≤◌, ◌<◌}
@@ -152,7 +152,7 @@ module _ (u : Value) (wide : length u.name ≡ 32) (eight : length u.waiting ≡
       go (same e) = ap sound_of e
       go (unsound a b) = a ∙ sym b
 
-  -- ---- BOTH ENGINES AGREE, for every event and buffer
+  -- ---- BOTH AGREE, for every event and buffer
 
   pub agree : (ev out : List ℕ) {t : Turn} {v : Result Done Refusal} {after out₁ out₂ : List ℕ} → Turned u (step (length out) u ev) out t out₁
       → Handled (image_of u) ev out v after out₂ → (v ≡ t.verdict) × ((after ≡ image_of t.unit) × (out₂ ≡ out₁))

@@ -1,6 +1,6 @@
 -- Which events each state takes (01, "The five states").
--- No contract of unit's public functions speaks of this file, only that of state::turns, which unit calls: a reader of 01 may skip it. Book refuses
--- with 1 what a state does not take; that it refuses so what this table does not take is proved (unit, proofs/EntryLaws, RequestLaws).
+-- No contract of unit's public functions speaks of this file, only that of state::turns, which turn calls: a reader of 01 may skip it. Book refuses
+-- with 1 what a state does not take; that it refuses so what this table does not take is proved (unit, proofs/EntryLaws; of requests turn, TableLaws).
 use Rattle.std.specs.Prelude.{ℕ, Bool, true, not, eqb, ltb}
 use Rattle.octets.specs.Choice.{pick, both, either}
 

@@ -1,5 +1,5 @@
 -- The waiting list in its array (01: "waiting list as a fixed array by value in the unit, one place removed and the rest closed up").
--- No contract of unit's public functions speaks of this file, only those of state::waiting, which unit calls: a reader of 01 may skip it. Who waits
+-- No contract of unit's public functions speaks of this file, only those of state::waiting and of a held unit's `find`: a reader of 01 may skip it. Who waits
 -- is said in Book.
 use Rattle.std.specs.Prelude.{ℕ, suc, List, [], ◌∷◌, ◌++◌, take, drop, eqb, ltb, None, Option, Some}
 use Rattle.octets.specs.Choice.{pick}

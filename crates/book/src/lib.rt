@@ -40,7 +40,7 @@ pub struct Unit {
 // An event, read from its octets.
 #[derive(Clone, Copy, PartialEq, Eq)]
 pub enum Event {
-    // Octets that are no event: refusal 8. Each match on an event has an arm for it; an Option around the event would be opened in the same places.
+    // Octets that are no event: refusal 8. Most matches on an event have an arm for it; an Option around the event would be opened in the same places.
     Malformed,
     // 01, or (true) 02.
     Transfer(bool, Terms),

@@ -10,7 +10,8 @@ use book::Terms;
 
 pub mod seen;
 
-// The readers stay beside `Seen`: docs/PROMISES.md names them, for blocks that are no image too. `Seen` for an image is read by them.
+// The readers stay beside `Seen`: docs/PROMISES.md names them, for blocks that are no image too. `Seen` for an image is read by them, but for
+// the name, the kept frame, and what is clear.
 
 fn octet(u: &[u8], i: usize) -> u8
     ensures { result ≡ get_or u.now i 0 }

@@ -1,4 +1,4 @@
-// What both engines say: the pen that lays lines, the notes that a unit makes itself, and the small questions that an event asks of terms and frames.
+// What a unit says, whatever it is held as: the pen that lays lines, the notes that a unit makes itself, and the small questions that an event asks of terms and frames.
 #![tactic(auto)]
 
 ghost use Rattle.std.specs.Prelude.{◌≡◌, ◌+◌, ◌≤◌, eqb, length, drop, replicate};
